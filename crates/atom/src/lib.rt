@@ -1,0 +1,3 @@
+// Atoms and the words that stand for them.
+pub mod fault;
+pub mod kind;
