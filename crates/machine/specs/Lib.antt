@@ -1,0 +1,5 @@
+pub mod Calls
+pub mod Heap
+pub mod Machine
+pub mod Refusals
+pub mod Words

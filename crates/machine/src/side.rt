@@ -1,0 +1,6 @@
+// The two words of a cell.
+#[derive(Clone, Copy)]
+pub enum Side {
+    Head,
+    Tail,
+}
