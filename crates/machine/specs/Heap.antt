@@ -120,7 +120,7 @@ scanCell h =
 -- at most n cells, while there is one to scan
 unfoldable pub scan : ℕ → Heap → Heap
 scan zero h = h
-scan (suc n) h = cond (ltb (h .marks .scanned) (h .marks .copied)) (scan n (scanCell h)) h
+scan (suc n) h = cond (scanOver (h .marks)) h (scan n (scanCell h))
 
 -- The halves trade places.
 abbrev pub trade : Heap → Heap

@@ -1,6 +1,6 @@
 -- The whole state of a list memory as plain values, and what a cons does before it may allocate.
 use Prim.Native.Nat.{ℕ, _+_, _-_, _/_}
-use Rattle.machine.specs.Heap.{Heap, Marks, emptyMarks, used, scanOver, here, lowerTop, move, moveHold, along, scan, trade, Step}
+use Rattle.machine.specs.Heap.{Heap, Marks, emptyMarks, used, scanOver, here, lowerTop, move, moveHold, along, scan, trade}
 use Rattle.machine.specs.Words.{refer, putCell}
 use Rattle.machine.specs.declared.fault.MemoryFault.{MemoryFault}
 use Rattle.machine.specs.declared.fault.MemoryFault.the-variants.{Scanning, Full}
@@ -79,21 +79,27 @@ flipLine m = m .heap .marks .size - ceiling (m .terms .limit) (m .terms .pace)
 abbrev pub flipDue : Machine → Bool
 flipDue m = cond (scanOver (m .heap .marks)) (leb (flipLine m) (used (m .heap .marks))) false
 
--- The roots after the halves have traded places: every register and then every taken hold, rising, is moved.
-abbrev pub movedRegisters : Machine → Step (List ℕ)
-movedRegisters m = along move (trade (m .heap)) (m .roots .registers)
-
-abbrev pub movedHolds : Machine → Step (List (Option ℕ))
-movedHolds m = along moveHold (movedRegisters m .after) (m .roots .holds)
-
-abbrev pub flip : Machine → Machine
-flip m =
+-- Every register is moved, rising, and then every taken hold.
+abbrev pub moveRegisters : Machine → Machine
+moveRegisters m =
     record {
-      heap = movedHolds m .after;
-      roots = record { registers = movedRegisters m .value; holds = movedHolds m .value };
+      heap = along move (m .heap) (m .roots .registers) .after;
+      roots = record { registers = along move (m .heap) (m .roots .registers) .value; holds = m .roots .holds };
       terms = m .terms;
       opened = m .opened;
     }
+
+abbrev pub moveHolds : Machine → Machine
+moveHolds m =
+    record {
+      heap = along moveHold (m .heap) (m .roots .holds) .after;
+      roots = record { registers = m .roots .registers; holds = along moveHold (m .heap) (m .roots .holds) .value };
+      terms = m .terms;
+      opened = m .opened;
+    }
+
+abbrev pub flip : Machine → Machine
+flip m = moveHolds (moveRegisters (withHeap m (trade (m .heap))))
 
 abbrev pub flipIfDue : Machine → Machine
 flipIfDue m = cond (flipDue m) (flip m) m
@@ -110,17 +116,15 @@ room m =
     (cond (ltb (m .copied) (m .top)) (Ok tt) (Err Full))
     (cond (ltb (m .prior) (m .top)) (Ok tt) (Err Scanning))
 
--- A cell more from the top, with the words of a and b; register d refers to it.
+-- A cell more from the top, with a pair of words.
 abbrev pub newCell : Machine → ℕ
 newCell m = here (m .heap) + lowerTop (m .heap .marks) .top
 
+abbrev pub allocate : Machine → ℕ × ℕ → Machine
+allocate m pair =
+    withHeap m
+    (record { words = putCell (m .heap .words) (newCell m) pair; upper = m .heap .upper; marks = lowerTop (m .heap .marks) })
+
+-- The new cell has the words of a and b, and register d refers to it.
 abbrev pub grant : Machine → ℕ → ℕ → ℕ → Machine
-grant m d a b =
-    withRegister
-    (withHeap m
-    (record {
-      words = putCell (m .heap .words) (newCell m) (register m a, register m b);
-      upper = m .heap .upper;
-      marks = lowerTop (m .heap .marks);
-    }))
-    d (refer (newCell m))
+grant m d a b = withRegister (allocate m (register m a, register m b)) d (refer (newCell m))

@@ -1,0 +1,2 @@
+mod Alongs
+mod Scans
