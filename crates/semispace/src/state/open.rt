@@ -4,7 +4,7 @@ ghost use Rattle.machine.specs.Calls.{mayOpen, openCall, wellPaced};
 ghost use Rattle.machine.specs.Machine.{shutMachine, ceiling};
 ghost use Rattle.semispace.specs.View.{machineOf};
 ghost use Rattle.std.specs.Results.{Cases};
-ghost use mathlib.Core.List.{List};
+ghost use mathlib.Core.List.{[]};
 ghost use mathlib.Core.Path.{_≡_};
 use super::State;
 use crate::halves::Halves;
@@ -30,7 +30,7 @@ fn check_limit(size: usize, pace: usize, limit: usize) -> Result<(), MemoryFault
 impl State {
     // The state of a memory that is made and not yet opened.
     pub fn shut() -> State
-        ensures { λ r. ⌜ ((ws : List ℕ) → machineOf ws r ≡ shutMachine ws) ⌝ }
+        ensures { λ r. ⌜ machineOf [] r ≡ shutMachine [] ⌝ }
     {
         State {
             halves: Halves {

@@ -1,0 +1,2 @@
+// The list memory: every call that a macro makes.
+pub mod memory;
