@@ -3,3 +3,4 @@ pub mod Heap
 pub mod Machine
 pub mod Refusals
 pub mod Words
+pub mod Work

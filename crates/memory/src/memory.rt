@@ -1,6 +1,7 @@
 // A list memory over any store, for any atom kind.
 ghost use Rattle.machine.specs.Calls.{admitted, known, openCall};
 ghost use Rattle.machine.specs.Machine.{shutMachine};
+ghost use Rattle.machine.specs.Work.{NoWork};
 ghost use Rattle.memory.specs.View.{machine};
 ghost use mathlib.Core.Path.{_≡_};
 use atom::kind::Atom;
@@ -58,6 +59,7 @@ impl<S: Store, A: Atom> ListMemory<S, A> {
     pub fn open(&mut self, pace: usize, limit: usize, number: u32) -> Result<(), MemoryFault>
         ensures answer { λ r. ⌜ r ≡ openCall (machine words (now (self .entry))) pace limit number .answer ⌝ }
         ensures after { λ _. ⌜ machine words (now (self .exit)) ≡ openCall (machine words (now (self .entry))) pace limit number .after ⌝ }
+        ensures bounded { λ _. ⌜ NoWork (machine words (now (self .entry))) (machine words (now (self .exit))) ⌝ }
     {
         self.state.open(&self.store, pace, limit, number)
     }

@@ -1,6 +1,9 @@
 // The calls that make, read and change cells.
 ghost use Rattle.machine.specs.Calls.{consCall, fetchCall, replaceCall};
+ghost use Rattle.machine.specs.Heap.{moveAt};
+ghost use Rattle.machine.specs.Machine.{collected, withHeap};
 ghost use Rattle.machine.specs.Words.{isReference};
+ghost use Rattle.machine.specs.Work.{ConsWork, FetchWork, NoWork};
 ghost use Rattle.machine.specs.declared.fault.MemoryFault.the-variants.{NotCell};
 ghost use Rattle.machine.specs.declared.side.Side.the-variants.{Head, Tail};
 ghost use Rattle.memory.specs.View.{machine};
@@ -28,13 +31,31 @@ fn need_cell(r: usize, word: u32) -> Result<(), MemoryFault>
 }
 
 impl<S: Store, A: Atom> ListMemory<S, A> {
+    // The collector's share of a cons.
+    fn collect(&mut self)
+        ensures after { λ _. ⌜ machine words (now (self .exit)) ≡ collected (machine words (now (self .entry))) ⌝ }
+        ensures bounded { λ _. ⌜ ConsWork (machine words (now (self .entry))) (machine words (now (self .exit))) ⌝ }
+    {
+        self.state.collect(&mut self.store);
+    }
+
+    // Moves the word at a place of the store, and writes it back there.
+    fn move_at(&mut self, place: usize) -> u32
+        ensures answer { λ r. ⌜ r ≡ moveAt (machine words (now (self .entry)) .heap) place .value ⌝ }
+        ensures after { λ _. ⌜ machine words (now (self .exit)) ≡ withHeap (machine words (now (self .entry))) (moveAt (machine words (now (self .entry)) .heap) place .after) ⌝ }
+        ensures bounded { λ _. ⌜ FetchWork (machine words (now (self .entry))) (machine words (now (self .exit))) ⌝ }
+    {
+        self.state.halves.move_at(&mut self.store, place)
+    }
+
     // A new cell with the words of a and b. They are read after the collector's share, which may move them.
     pub fn cons(&mut self, d: usize, a: usize, b: usize) -> Result<(), MemoryFault>
         ensures answer { λ r. ⌜ r ≡ consCall (machine words (now (self .entry))) d a b .answer ⌝ }
         ensures after { λ _. ⌜ machine words (now (self .exit)) ≡ consCall (machine words (now (self .entry))) d a b .after ⌝ }
+        ensures bounded { λ _. ⌜ ConsWork (machine words (now (self .entry))) (machine words (now (self .exit))) ⌝ }
     {
         self.admit(&[d, a, b])?;
-        self.state.collect(&mut self.store);
+        self.collect();
         self.state.halves.marks.room()?;
         let pair = (self.state.roots.registers[a], self.state.roots.registers[b]);
         self.state.roots.registers[d] = self.state.allocate(&mut self.store, pair);
@@ -45,18 +66,20 @@ impl<S: Store, A: Atom> ListMemory<S, A> {
     fn fetch(&mut self, side: Side, d: usize, r: usize) -> Result<(), MemoryFault>
         ensures answer { λ x. ⌜ x ≡ fetchCall side (machine words (now (self .entry))) d r .answer ⌝ }
         ensures after { λ _. ⌜ machine words (now (self .exit)) ≡ fetchCall side (machine words (now (self .entry))) d r .after ⌝ }
+        ensures bounded { λ _. ⌜ FetchWork (machine words (now (self .entry))) (machine words (now (self .exit))) ⌝ }
     {
         self.admit(&[d, r])?;
         let word = self.state.roots.registers[r];
         need_cell(r, word)?;
         let place = place_of(side, word);
-        self.state.roots.registers[d] = self.state.halves.move_at(&mut self.store, place);
+        self.state.roots.registers[d] = self.move_at(place);
         Ok(())
     }
 
     pub fn car(&mut self, d: usize, r: usize) -> Result<(), MemoryFault>
         ensures answer { λ x. ⌜ x ≡ fetchCall Head (machine words (now (self .entry))) d r .answer ⌝ }
         ensures after { λ _. ⌜ machine words (now (self .exit)) ≡ fetchCall Head (machine words (now (self .entry))) d r .after ⌝ }
+        ensures bounded { λ _. ⌜ FetchWork (machine words (now (self .entry))) (machine words (now (self .exit))) ⌝ }
     {
         self.fetch(Side::Head, d, r)
     }
@@ -64,6 +87,7 @@ impl<S: Store, A: Atom> ListMemory<S, A> {
     pub fn cdr(&mut self, d: usize, r: usize) -> Result<(), MemoryFault>
         ensures answer { λ x. ⌜ x ≡ fetchCall Tail (machine words (now (self .entry))) d r .answer ⌝ }
         ensures after { λ _. ⌜ machine words (now (self .exit)) ≡ fetchCall Tail (machine words (now (self .entry))) d r .after ⌝ }
+        ensures bounded { λ _. ⌜ FetchWork (machine words (now (self .entry))) (machine words (now (self .exit))) ⌝ }
     {
         self.fetch(Side::Tail, d, r)
     }
@@ -72,6 +96,7 @@ impl<S: Store, A: Atom> ListMemory<S, A> {
     fn replace(&mut self, side: Side, r: usize, v: usize) -> Result<(), MemoryFault>
         ensures answer { λ x. ⌜ x ≡ replaceCall side (machine words (now (self .entry))) r v .answer ⌝ }
         ensures after { λ _. ⌜ machine words (now (self .exit)) ≡ replaceCall side (machine words (now (self .entry))) r v .after ⌝ }
+        ensures bounded { λ _. ⌜ NoWork (machine words (now (self .entry))) (machine words (now (self .exit))) ⌝ }
     {
         self.admit(&[r, v])?;
         let word = self.state.roots.registers[r];
@@ -84,6 +109,7 @@ impl<S: Store, A: Atom> ListMemory<S, A> {
     pub fn rplaca(&mut self, r: usize, v: usize) -> Result<(), MemoryFault>
         ensures answer { λ x. ⌜ x ≡ replaceCall Head (machine words (now (self .entry))) r v .answer ⌝ }
         ensures after { λ _. ⌜ machine words (now (self .exit)) ≡ replaceCall Head (machine words (now (self .entry))) r v .after ⌝ }
+        ensures bounded { λ _. ⌜ NoWork (machine words (now (self .entry))) (machine words (now (self .exit))) ⌝ }
     {
         self.replace(Side::Head, r, v)
     }
@@ -91,6 +117,7 @@ impl<S: Store, A: Atom> ListMemory<S, A> {
     pub fn rplacd(&mut self, r: usize, v: usize) -> Result<(), MemoryFault>
         ensures answer { λ x. ⌜ x ≡ replaceCall Tail (machine words (now (self .entry))) r v .answer ⌝ }
         ensures after { λ _. ⌜ machine words (now (self .exit)) ≡ replaceCall Tail (machine words (now (self .entry))) r v .after ⌝ }
+        ensures bounded { λ _. ⌜ NoWork (machine words (now (self .entry))) (machine words (now (self .exit))) ⌝ }
     {
         self.replace(Side::Tail, r, v)
     }

@@ -1,6 +1,7 @@
 // The calls that only read or write registers.
 ghost use Rattle.machine.specs.Calls.{setCall, loadCall, clearCall, lookCall, sameCall};
 ghost use Rattle.machine.specs.Words.{sightOf};
+ghost use Rattle.machine.specs.Work.{NoWork};
 ghost use Rattle.memory.specs.View.{machine};
 ghost use mathlib.Core.Path.{_≡_};
 use super::ListMemory;
@@ -31,6 +32,7 @@ impl<S: Store, A: Atom> ListMemory<S, A> {
     pub fn set(&mut self, d: usize, atom: A) -> Result<(), MemoryFault>
         ensures answer { λ r. ⌜ r ≡ setCall (machine words (now (self .entry))) d (coded atom) .answer ⌝ }
         ensures after { λ _. ⌜ machine words (now (self .exit)) ≡ setCall (machine words (now (self .entry))) d (coded atom) .after ⌝ }
+        ensures bounded { λ _. ⌜ NoWork (machine words (now (self .entry))) (machine words (now (self .exit))) ⌝ }
     {
         self.admit(&[d])?;
         self.state.roots.registers[d] = atom.code()?;
@@ -40,6 +42,7 @@ impl<S: Store, A: Atom> ListMemory<S, A> {
     pub fn load(&mut self, d: usize, r: usize) -> Result<(), MemoryFault>
         ensures answer { λ x. ⌜ x ≡ loadCall (machine words (now (self .entry))) d r .answer ⌝ }
         ensures after { λ _. ⌜ machine words (now (self .exit)) ≡ loadCall (machine words (now (self .entry))) d r .after ⌝ }
+        ensures bounded { λ _. ⌜ NoWork (machine words (now (self .entry))) (machine words (now (self .exit))) ⌝ }
     {
         self.admit(&[d, r])?;
         self.state.roots.registers[d] = self.state.roots.registers[r];
@@ -49,6 +52,7 @@ impl<S: Store, A: Atom> ListMemory<S, A> {
     pub fn clear(&mut self, d: usize) -> Result<(), MemoryFault>
         ensures answer { λ x. ⌜ x ≡ clearCall (machine words (now (self .entry))) d .answer ⌝ }
         ensures after { λ _. ⌜ machine words (now (self .exit)) ≡ clearCall (machine words (now (self .entry))) d .after ⌝ }
+        ensures bounded { λ _. ⌜ NoWork (machine words (now (self .entry))) (machine words (now (self .exit))) ⌝ }
     {
         self.admit(&[d])?;
         self.state.roots.registers[d] = 0;

@@ -2,6 +2,7 @@
 ghost use Prim.Native.Nat.{ℕ, _+_, _*_, _≤_};
 ghost use Rattle.machine.specs.Calls.{mayOpen, openCall, wellPaced};
 ghost use Rattle.machine.specs.Machine.{shutMachine, ceiling};
+ghost use Rattle.machine.specs.Work.{NoWork};
 ghost use Rattle.semispace.specs.View.{machineOf};
 ghost use Rattle.std.specs.Results.{Cases};
 ghost use mathlib.Core.List.{[]};
@@ -60,6 +61,7 @@ impl State {
     ) -> Result<(), MemoryFault>
         ensures answer { λ r. ⌜ r ≡ openCall (machineOf (words (now (store .entry))) (now (self .entry))) pace limit number .answer ⌝ }
         ensures after { λ _. ⌜ machineOf (words (now (store .entry))) (now (self .exit)) ≡ openCall (machineOf (words (now (store .entry))) (now (self .entry))) pace limit number .after ⌝ }
+        ensures bounded { λ _. ⌜ NoWork (machineOf (words (now (store .entry))) (now (self .entry))) (machineOf (words (now (store .entry))) (now (self .exit))) ⌝ }
     {
         if self.opened {
             return Err(MemoryFault::AlreadyOpen);
