@@ -1,1 +1,5 @@
+pub mod Axes
+pub mod Counts
+pub mod Placed
 pub mod Refused
+pub mod Shown

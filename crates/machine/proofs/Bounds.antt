@@ -26,9 +26,9 @@ grows-not h = record { half = refl; more-scanned = omega arith; more-copied = om
 pub grows-on : (s c s′ c′ : ℕ) (h h′ h″ : Heap) → Grows s c h h′ → Grows s′ c′ h′ h″ → Grows (s + s′) (c + c′) h h″
 grows-on s c s′ c′ h h′ h″ p q =
     record {
-        half = q .half ∙ p .half;
-        more-scanned = omega (arith, p .more-scanned, q .more-scanned);
-        more-copied = omega (arith, p .more-copied, q .more-copied)
+      half = q .half ∙ p .half;
+      more-scanned = omega (arith, p .more-scanned, q .more-scanned);
+      more-copied = omega (arith, p .more-copied, q .more-copied);
     }
 
 pub move-grows : (h : Heap) (w : ℕ) → Grows 0 1 h (move h w .after)
@@ -54,9 +54,9 @@ scan-by n h h′ true later = record { half = refl; more-scanned = omega arith; 
 scan-by n h h′ false later =
     let m = scanCell-grows h in
     record {
-        half = later .half ∙ m .half;
-        more-scanned = omega (arith, m .more-scanned, later .more-scanned);
-        more-copied = omega (arith, m .more-copied, later .more-copied)
+      half = later .half ∙ m .half;
+      more-scanned = omega (arith, m .more-scanned, later .more-scanned);
+      more-copied = omega (arith, m .more-copied, later .more-copied);
     }
 
 pub scan-grows : (n : ℕ) (h : Heap) → Grows n (2 * n) h (scan n h)
@@ -72,9 +72,9 @@ along-grows step one h (x ∷ xs) =
     let m = one h x in
     let later = along-grows step one (step h x .after) xs in
     record {
-        half = later .half ∙ m .half;
-        more-scanned = omega (arith, m .more-scanned, later .more-scanned);
-        more-copied = omega (arith, m .more-copied, later .more-copied)
+      half = later .half ∙ m .half;
+      more-scanned = omega (arith, m .more-scanned, later .more-scanned);
+      more-copied = omega (arith, m .more-copied, later .more-copied);
     }
 
 rise-same : (u u′ : Bool) (n n′ k : ℕ) → u′ ≡ u → n′ ≤ n + k → rise u u′ n n′ ≤ k
@@ -95,22 +95,24 @@ flip-grows m sixteen eight =
     let a = along-grows move move-grows (trade (m .heap)) (m .roots .registers) in
     let b = along-grows moveHold moveHold-grows (moveRegisters (withHeap m (trade (m .heap))) .heap) (m .roots .holds) in
     record {
-        half = b .half ∙ a .half;
-        more-scanned = omega (arith, a .more-scanned, b .more-scanned);
-        more-copied = omega (arith, a .more-copied, b .more-copied)
+      half = b .half ∙ a .half;
+      more-scanned = omega (arith, a .more-scanned, b .more-scanned);
+      more-copied = omega (arith, a .more-copied, b .more-copied);
     }
 
 -- the collector's share of a cons, whether or not it flips
 shared : (m : Machine) (due : Bool) → length (m .roots .registers) ≡ 16 → length (m .roots .holds) ≡ 8 → ConsWork m (withHeap m (scan (m .terms .pace) (cond due (flip m) m .heap)))
 shared m true sixteen eight =
     let a = flip-grows m sixteen eight in
-    let b = scan-grows (m .terms .pace) (flip m .heap) in
-    (rise-turned (m .heap .upper) _ _ _ _ (b .half ∙ a .half) (omega (arith, a .more-scanned, b .more-scanned)),
-     rise-turned (m .heap .upper) _ _ _ _ (b .half ∙ a .half) (omega (arith, a .more-copied, b .more-copied)))
+    let b = scan-grows (m .terms .pace) (flip m .heap) in (
+      rise-turned (m .heap .upper) _ _ _ _ (b .half ∙ a .half) (omega (arith, a .more-scanned, b .more-scanned)),
+      rise-turned (m .heap .upper) _ _ _ _ (b .half ∙ a .half) (omega (arith, a .more-copied, b .more-copied)),
+    )
 shared m false sixteen eight =
-    let b = scan-grows (m .terms .pace) (m .heap) in
-    (rise-same (m .heap .upper) _ _ _ _ (b .half) (omega (arith, b .more-scanned)),
-     rise-same (m .heap .upper) _ _ _ _ (b .half) (omega (arith, b .more-copied)))
+    let b = scan-grows (m .terms .pace) (m .heap) in (
+      rise-same (m .heap .upper) _ _ _ _ (b .half) (omega (arith, b .more-scanned)),
+      rise-same (m .heap .upper) _ _ _ _ (b .half) (omega (arith, b .more-copied)),
+    )
 
 pub collected-works : (m : Machine) → length (m .roots .registers) ≡ 16 → length (m .roots .holds) ≡ 8 → ConsWork m (collected m)
 collected-works m sixteen eight = shared m (flipDue m) sixteen eight

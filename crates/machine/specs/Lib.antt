@@ -4,3 +4,4 @@ pub mod Machine
 pub mod Refusals
 pub mod Words
 pub mod Work
+pub mod Worked

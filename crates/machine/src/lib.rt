@@ -3,3 +3,4 @@
 pub mod fault;
 pub mod side;
 pub mod sight;
+pub mod worked;

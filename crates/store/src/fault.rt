@@ -1,5 +1,9 @@
 // The one refusal of a store.
+ghost use Rattle.std.specs.declared.result.Result.the-variants.{Ok, Err};
 ghost use Rattle.store.specs.Answers.{storeReport};
+ghost use lib.Dec.{ltb};
+ghost use mathlib.Core.Bool.{cond};
+ghost use mathlib.Core.Path.{_≡_};
 use fault::Layer;
 use fault::Refusal;
 use fault::Report;
@@ -20,5 +24,16 @@ pub impl Refusal for StoreFault as StoreRefusal {
             layer: Layer::Store,
             place,
         }
+    }
+}
+
+// Refuses a place outside a store of this size.
+pub fn inside(place: usize, size: usize) -> Result<(), StoreFault>
+    ensures answer { λ r. ⌜ r ≡ cond (ltb place size) (Ok tt) (Err (StoreFault.Outside place)) ⌝ }
+{
+    if place < size {
+        Ok(())
+    } else {
+        Err(StoreFault::Outside(place))
     }
 }

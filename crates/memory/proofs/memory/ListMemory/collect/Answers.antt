@@ -9,7 +9,7 @@ pub returns : need.returns
 returns g c =
     let before : Machine = machine (g .S·Store .words) (c .args .self .now) in
     record {
-        after = c .collect .ensures;
-        bounded = subst (ConsWork before) (sym (c .collect .ensures))
-            (collected-works before (c .args .self .now .state .roots .sized .0) (c .args .self .now .state .roots .sized .1))
+      after = c .collect .ensures;
+      bounded = subst (ConsWork before) (sym (c .collect .ensures))
+          (collected-works before (c .args .self .now .state .roots .sized .0) (c .args .self .now .state .roots .sized .1));
     }

@@ -9,7 +9,7 @@ pub returns : need.returns
 returns g c =
     let before : Heap = machine (g .S·Store .words) (c .args .self .now) .heap in
     record {
-        answer = search needs;
-        after = search needs;
-        bounded = fetched-works before _ (subst (Grows 0 1 before) (sym (c .move-at .ensures .after)) (moveAt-grows before (c .args .place)))
+      answer = search needs;
+      after = search needs;
+      bounded = fetched-works before _ (subst (Grows 0 1 before) (sym (c .move-at .ensures .after)) (moveAt-grows before (c .args .place)));
     }

@@ -1,0 +1,6 @@
+use Rattle.store.proofs.Interleaved.{length-interleaved}
+use Rattle.store.proofs.bank.BankWords.size.Needs as need
+use borrow.Author.Needs.{needs}
+
+pub returns : need.returns
+returns c = search (needs, length-interleaved)

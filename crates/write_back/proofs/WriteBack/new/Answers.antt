@@ -1,0 +1,7 @@
+use Rattle.std.proofs.shelf.Lists.{getD-replicate}
+use Rattle.write_back.proofs.Overlaid.{overlaid-none}
+use Rattle.write_back.proofs.WriteBack.new.Needs as need
+use borrow.Author.Needs.{needs}
+
+pub returns : need.returns
+returns g c = search (needs, overlaid-none, getD-replicate)
