@@ -1,10 +1,8 @@
 -- Two banks read and written in turn: each place of the interleaved list is a slot of one bank.
 use Prim.Native.Nat.{ℕ, zero, suc, min, _+_, _*_, _/_, _%_, _<_}
-use Rattle.std.proofs.shelf.Tests.{cases-eq, cond-true, cond-false, eq-eqb, ne-eqb}
+use Rattle.std.proofs.shelf.Tests.{cases-eq, eq-eqb, ne-eqb}
 use Rattle.store.specs.Banks.{interleaved, bankWord, evenAfter, oddAfter}
-use lib.Dec.{eqb}
 use lib.ListN.{length, getD, set}
-use mathlib.Core.Bool.{cond}
 use mathlib.Core.List.{List, [], _∷_}
 use mathlib.Core.Logic.{inl, inr}
 use mathlib.Core.Path.{_≡_, _∙_, refl, ap}
@@ -22,14 +20,16 @@ twice-suc k = omega arith
 twice-suc+1 : (k : ℕ) → 2 * suc k + 1 ≡ suc (suc (2 * k + 1))
 twice-suc+1 k = omega arith
 
-getD-even : (even odd : List ℕ) (k : ℕ) → k < min (length even) (length odd) → getD (interleaved even odd) (2 * k) 0 ≡ getD even k 0
+getD-even : (even odd : List ℕ) (k : ℕ) →
+    k < min (length even) (length odd) → getD (interleaved even odd) (2 * k) 0 ≡ getD even k 0
 unfolding interleaved
 getD-even [] odd k h = absurd (omega arith)
 getD-even (x ∷ even) [] k h = absurd (omega arith)
 getD-even (x ∷ even) (y ∷ odd) zero h = refl
 getD-even (x ∷ even) (y ∷ odd) (suc k) h = rw (twice-suc k) (getD-even even odd k (omega arith))
 
-getD-odd : (even odd : List ℕ) (k : ℕ) → k < min (length even) (length odd) → getD (interleaved even odd) (2 * k + 1) 0 ≡ getD odd k 0
+getD-odd : (even odd : List ℕ) (k : ℕ) →
+    k < min (length even) (length odd) → getD (interleaved even odd) (2 * k + 1) 0 ≡ getD odd k 0
 unfolding interleaved
 getD-odd [] odd k h = absurd (omega arith)
 getD-odd (x ∷ even) [] k h = absurd (omega arith)
@@ -57,16 +57,20 @@ even-place i e = omega arith
 odd-place : (i : ℕ) → (i % 2 ≡ 0 → ⊥) → i ≡ 2 * (i / 2) + 1
 odd-place i ne = omega arith
 
-pub getD-interleaved : (even odd : List ℕ) (i : ℕ) → i / 2 < min (length even) (length odd) → getD (interleaved even odd) i 0 ≡ bankWord even odd i
+pub getD-interleaved : (even odd : List ℕ) (i : ℕ) →
+    i / 2 < min (length even) (length odd) → getD (interleaved even odd) i 0 ≡ bankWord even odd i
 getD-interleaved even odd i h =
+    let word = λ (j : ℕ). getD (interleaved even odd) j 0 in
     elim (cases-eq (i % 2) 0) [
-      | inl e ↦ rw (eq-eqb (i % 2) 0 e) (ap (λ j. getD (interleaved even odd) j 0) (even-place i e) ∙ getD-even even odd (i / 2) h)
-      | inr ne ↦ rw (ne-eqb (i % 2) 0 ne) (ap (λ j. getD (interleaved even odd) j 0) (odd-place i ne) ∙ getD-odd even odd (i / 2) h)
+      | inl e ↦ rw (eq-eqb (i % 2) 0 e) (ap word (even-place i e) ∙ getD-even even odd (i / 2) h)
+      | inr ne ↦ rw (ne-eqb (i % 2) 0 ne) (ap word (odd-place i ne) ∙ getD-odd even odd (i / 2) h)
     ]
 
-pub set-interleaved : (even odd : List ℕ) (i w : ℕ) → set (interleaved even odd) i w ≡ interleaved (evenAfter even i w) (oddAfter odd i w)
+pub set-interleaved : (even odd : List ℕ) (i w : ℕ) →
+    set (interleaved even odd) i w ≡ interleaved (evenAfter even i w) (oddAfter odd i w)
 set-interleaved even odd i w =
+    let after = λ (j : ℕ). set (interleaved even odd) j w in
     elim (cases-eq (i % 2) 0) [
-      | inl e ↦ rw (eq-eqb (i % 2) 0 e) (ap (λ j. set (interleaved even odd) j w) (even-place i e) ∙ set-even even odd (i / 2) w)
-      | inr ne ↦ rw (ne-eqb (i % 2) 0 ne) (ap (λ j. set (interleaved even odd) j w) (odd-place i ne) ∙ set-odd even odd (i / 2) w)
+      | inl e ↦ rw (eq-eqb (i % 2) 0 e) (ap after (even-place i e) ∙ set-even even odd (i / 2) w)
+      | inr ne ↦ rw (ne-eqb (i % 2) 0 ne) (ap after (odd-place i ne) ∙ set-odd even odd (i / 2) w)
     ]

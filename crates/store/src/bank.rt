@@ -43,10 +43,9 @@ impl<'a> BankStore<'a> {
         ensures even { λ _. ⌜ now (now (self .exit) .even) ≡ evenAfter (now (now (self .entry) .even)) place word ⌝ }
         ensures odd { λ _. ⌜ now (now (self .exit) .odd) ≡ oddAfter (now (now (self .entry) .odd)) place word ⌝ }
     {
-        if place % 2 == 0 {
-            self.even[place / 2] = word;
-        } else {
-            self.odd[place / 2] = word;
+        match place % 2 {
+            0 => self.even[place / 2] = word,
+            _ => self.odd[place / 2] = word,
         }
     }
 }

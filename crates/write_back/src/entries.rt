@@ -50,6 +50,7 @@ impl Entries {
         }
     }
 
+    // Keeps a word in the entry of its place, over whatever the entry had.
     pub fn keep(&mut self, late: Late)
         ensures room { λ _. ⌜ late .place % 8 < length (now (self .entry) .late) ⌝ }
         ensures after { λ _. ⌜ now (self .exit) .late ≡ set (now (self .entry) .late) (late .place % 8) (Some late) ⌝ }

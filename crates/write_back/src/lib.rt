@@ -34,12 +34,14 @@ impl<S: Store> WriteBack<S> {
     pub fn settle(mut self) -> S
         ensures answer { λ r. ⌜ S·Store .words r ≡ overlaid (S·Store .words (self .below)) (self .entries .late) ⌝ }
     {
+        // place k belongs to entry k, and nothing is refused
         for k in 0..8 {
             let _ = self.send_down(k);
         }
         self.into_below()
     }
 
+    // The store below, once nothing is kept.
     fn into_below(self) -> S
         requires { ⌜ ((k : ℕ) → k < 8 → getD (self .entries .late) k None ≡ None) ⌝ }
         ensures answer { λ r. ⌜ S·Store .words r ≡ overlaid (S·Store .words (self .below)) (self .entries .late) ⌝ }
@@ -48,6 +50,7 @@ impl<S: Store> WriteBack<S> {
         below
     }
 
+    // As many as the store below has.
     fn places(&self) -> usize
         ensures answer { λ r. ⌜ r ≡ length (S·Store .words (now (self .entry) .below)) ⌝ }
     {

@@ -1,3 +1,4 @@
+-- The word at a place is its late word, or else the word below.
 use Rattle.write_back.proofs.LateWords.read.Needs as need
 use Rattle.write_back.proofs.Overlaid.{length-overlaid, getD-overlaid}
 use borrow.Author.Needs.{needs}

@@ -1,3 +1,4 @@
+-- Late words leave the length.
 use Rattle.write_back.proofs.LateWords.size.Needs as need
 use Rattle.write_back.proofs.Overlaid.{length-overlaid}
 use borrow.Author.Needs.{needs}

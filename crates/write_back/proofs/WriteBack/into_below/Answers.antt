@@ -1,3 +1,4 @@
+-- With nothing kept, the store below means what the layer means.
 use Rattle.write_back.proofs.Overlaid.{overlaid-none}
 use Rattle.write_back.proofs.WriteBack.into_below.Needs as need
 use borrow.Author.Needs.{needs}

@@ -1,3 +1,4 @@
+-- A word sent down leaves the meaning, and its entry has none.
 use Rattle.write_back.proofs.Overlaid.{overlaid-sent, getD-set-none}
 use Rattle.write_back.proofs.WriteBack.make_room.Needs as need
 use borrow.Author.Needs.{needs}

@@ -1,3 +1,4 @@
+-- One more entry is free, and the meaning stays.
 use Rattle.std.proofs.shelf.Lists.{getD-set-other}
 use Rattle.write_back.proofs.Overlaid.{overlaid-sent, getD-set-none}
 use Rattle.write_back.proofs.WriteBack.settle.Needs as need

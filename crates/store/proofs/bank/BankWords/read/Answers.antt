@@ -1,3 +1,4 @@
+-- The word at a place is the word of its bank.
 use Rattle.store.proofs.Interleaved.{length-interleaved, getD-interleaved}
 use Rattle.store.proofs.bank.BankWords.read.Needs as need
 use borrow.Author.Needs.{needs}

@@ -1,3 +1,4 @@
+-- The interleaved list is twice as long as the shorter bank.
 use Rattle.store.proofs.Interleaved.{length-interleaved}
 use Rattle.store.proofs.bank.BankWords.size.Needs as need
 use borrow.Author.Needs.{needs}

@@ -1,3 +1,4 @@
+-- A word put into its bank is set in the interleaved list; past the end nothing is.
 use Rattle.std.proofs.shelf.Lists.{set-past}
 use Rattle.store.proofs.Interleaved.{length-interleaved, set-interleaved}
 use Rattle.store.proofs.bank.BankWords.write.Needs as need

@@ -1,3 +1,4 @@
+-- The word at a place is that of its four bytes.
 use Rattle.store.proofs.FourBytes.{length-byteWords, getD-byteWords}
 use Rattle.store.proofs.bytes.ByteWords.read.Needs as need
 use borrow.Author.Needs.{needs}

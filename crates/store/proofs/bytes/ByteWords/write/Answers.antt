@@ -1,3 +1,4 @@
+-- Four bytes put at their place are a word set in the list; past the end nothing is.
 use Rattle.std.proofs.shelf.Lists.{set-past}
 use Rattle.store.proofs.FourBytes.{length-byteWords, set-byteWords}
 use Rattle.store.proofs.bytes.ByteWords.write.Needs as need

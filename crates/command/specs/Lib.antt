@@ -1,0 +1,3 @@
+pub mod Atoms
+pub mod Commands
+pub mod Operands

@@ -1,0 +1,5 @@
+mod Commands
+mod Lines
+mod Numbers
+mod Spelling
+mod Words
