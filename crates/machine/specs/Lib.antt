@@ -1,5 +1,7 @@
 pub mod Calls
+pub mod Feed
 pub mod Heap
+pub mod Holds
 pub mod Machine
 pub mod Refusals
 pub mod Words

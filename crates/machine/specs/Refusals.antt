@@ -4,7 +4,7 @@ use Rattle.atom.specs.Refused.{kindReport}
 use Rattle.fault.specs.declared.Layer.the-variants.{Memory}
 use Rattle.fault.specs.declared.Report.{Report}
 use Rattle.machine.specs.declared.fault.MemoryFault.{MemoryFault}
-use Rattle.machine.specs.declared.fault.MemoryFault.the-variants.{Shut, AlreadyOpen, HalfSize, Pace, Limit, NoRegister, NotCell, Kind, Scanning, Full}
+use Rattle.machine.specs.declared.fault.MemoryFault.the-variants.{Shut, AlreadyOpen, HalfSize, Pace, Limit, NoRegister, NotCell, Kind, Scanning, Full, NoHold, HoldTaken, NotHeld, NotAtom}
 
 abbrev pub ofMemory : ℕ → ℕ → Report
 ofMemory number place = record { number = number; layer = Memory; place = place }
@@ -21,3 +21,7 @@ memoryReport (NotCell r) = ofMemory 7 r
 memoryReport (Kind k) = ofMemory (kindReport k .number) (kindReport k .place)
 memoryReport Scanning = ofMemory 9 0
 memoryReport Full = ofMemory 10 0
+memoryReport (NoHold p) = ofMemory 11 p
+memoryReport (HoldTaken p) = ofMemory 12 p
+memoryReport (NotHeld p) = ofMemory 13 p
+memoryReport (NotAtom n) = ofMemory 15 n

@@ -30,6 +30,12 @@ pub enum MemoryFault {
     Scanning,
     // no room although the scan is over
     Full,
+    NoHold(usize),
+    HoldTaken(usize),
+    // the token is another memory's, or its place is free
+    NotHeld(usize),
+    // an element of a list to be fed is no atom; names how many were written
+    NotAtom(usize),
 }
 
 pub impl From<KindFault> for MemoryFault as FromKind {
@@ -68,6 +74,10 @@ pub impl Refusal for MemoryFault as MemoryRefusal {
             }
             MemoryFault::Scanning => of_memory(9, 0),
             MemoryFault::Full => of_memory(10, 0),
+            MemoryFault::NoHold(p) => of_memory(11, p),
+            MemoryFault::HoldTaken(p) => of_memory(12, p),
+            MemoryFault::NotHeld(p) => of_memory(13, p),
+            MemoryFault::NotAtom(n) => of_memory(15, n),
         }
     }
 }

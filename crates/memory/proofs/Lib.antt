@@ -1,0 +1,3 @@
+mod Feeds
+pub mod Holds
+mod Walks

@@ -1,2 +1,3 @@
 // The list memory: every call that a macro makes.
 pub mod memory;
+pub mod token;

@@ -1,8 +1,12 @@
 // A list memory over any store, for any atom kind.
+ghost use Rattle.ledger.specs.Law.{LedgerLaw};
+ghost use Rattle.ledger.specs.Runs.{Order};
 ghost use Rattle.machine.specs.Calls.{admitted, known, openCall};
 ghost use Rattle.machine.specs.Machine.{shutMachine};
 ghost use Rattle.machine.specs.Work.{NoWork};
 ghost use Rattle.memory.specs.View.{machine};
+ghost use Rattle.std.specs.declared.result.Result.the-variants.{Ok};
+ghost use mathlib.Core.List.{List};
 ghost use mathlib.Core.Path.{_≡_};
 use atom::kind::Atom;
 use machine::fault::MemoryFault;
@@ -11,6 +15,8 @@ use std::marker::PhantomData;
 use store::words::Store;
 
 pub mod cells;
+pub mod feed;
+pub mod holds;
 pub mod registers;
 
 // The first register above 15 is refused.
@@ -56,12 +62,22 @@ impl<S: Store, A: Atom> ListMemory<S, A> {
         store
     }
 
-    pub fn open(&mut self, pace: usize, limit: usize, number: u32) -> Result<(), MemoryFault>
+    fn begin(&mut self, pace: usize, limit: usize, number: u32) -> Result<(), MemoryFault>
         ensures answer { λ r. ⌜ r ≡ openCall (machine words (now (self .entry))) pace limit number .answer ⌝ }
         ensures after { λ _. ⌜ machine words (now (self .exit)) ≡ openCall (machine words (now (self .entry))) pace limit number .after ⌝ }
         ensures bounded { λ _. ⌜ NoWork (machine words (now (self .entry))) (machine words (now (self .exit))) ⌝ }
     {
         self.state.open(&self.store, pace, limit, number)
+    }
+
+    // Once it is granted, the memory answers as the ledger does, whatever is called from then on.
+    pub fn open(&mut self, pace: usize, limit: usize, number: u32) -> Result<(), MemoryFault>
+        ensures answer { λ r. ⌜ r ≡ openCall (machine words (now (self .entry))) pace limit number .answer ⌝ }
+        ensures after { λ _. ⌜ machine words (now (self .exit)) ≡ openCall (machine words (now (self .entry))) pace limit number .after ⌝ }
+        ensures bounded { λ _. ⌜ NoWork (machine words (now (self .entry))) (machine words (now (self .exit))) ⌝ }
+        ensures law { λ r. ⌜ (r ≡ Ok tt → (orders : List (Order A)) → LedgerLaw coded meant (machine words (now (self .exit))) orders) ⌝ }
+    {
+        self.begin(pace, limit, number)
     }
 
     // Whether the memory is open and has all these registers.

@@ -40,7 +40,7 @@ impl<S: Store, A: Atom> ListMemory<S, A> {
     }
 
     // Moves the word at a place of the store, and writes it back there.
-    fn move_at(&mut self, place: usize) -> u32
+    pub(super) fn move_at(&mut self, place: usize) -> u32
         ensures answer { λ r. ⌜ r ≡ moveAt (machine words (now (self .entry)) .heap) place .value ⌝ }
         ensures after { λ _. ⌜ machine words (now (self .exit)) ≡ withHeap (machine words (now (self .entry))) (moveAt (machine words (now (self .entry)) .heap) place .after) ⌝ }
         ensures bounded { λ _. ⌜ FetchWork (machine words (now (self .entry))) (machine words (now (self .exit))) ⌝ }

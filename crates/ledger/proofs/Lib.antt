@@ -1,0 +1,32 @@
+mod Cells
+mod Collect
+mod Copy
+mod Feeding
+mod Flip
+mod Holding
+mod Invariant
+mod Mend
+mod Move
+mod NoneRefused
+mod Opening
+mod Paces
+mod Pigeons
+mod Plenty
+mod Room
+mod Roots
+mod PadCalls
+mod Pads
+pub mod Running
+mod Same
+mod Scan
+mod Seen
+mod Showing
+mod Sides
+mod Sound
+mod Steps
+mod Tries
+mod Turn
+mod Turns
+pub mod Whole
+mod Words
+mod Writes

@@ -1,0 +1,5 @@
+pub mod Answers
+pub mod Law
+pub mod Ledger
+pub mod Padded
+pub mod Runs
