@@ -143,7 +143,7 @@ module _ {A : Type 0} (coded : A → Result ℕ KindFault) (meant : ℕ → Opti
     pub tries : (n d a b : ℕ) → Few n (ledgerOf m os) → n < m .heap .marks .size → d < 16 → a < 16 → b < 16 → Within (2 * ceiling (m .heap .marks .size) (m .terms .pace)) (machineAfter coded meant m os) d a b
     -- a refused call leaves what every root shows
     pub shows : (o : Order A) (p : Root) (path : List Side) → refusal (turn coded meant (machineAfter coded meant m os) o .reply) ≡ true → rootShows meant (turn coded meant (machineAfter coded meant m os) o .after) p path ≡ rootShows meant (machineAfter coded meant m os) p path
-    -- no move found its half full
+    -- no word of the half that was left stays where a move put it
     pub current : Current (machineAfter coded meant m os)
-    -- no call met a refusal of its store
+    -- words past the end of the store have no effect and are left alone
     pub inside : WithinStore coded meant m os

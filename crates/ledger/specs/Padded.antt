@@ -15,7 +15,7 @@ padHeap h beyond = withWords h (h .words ++ beyond)
 abbrev pub padded : Machine → List ℕ → Machine
 padded m beyond = withHeap m (padHeap (m .heap) beyond)
 
--- Whatever words lie past the store's end, no run reads or writes one of them: no call meets a refusal of its store.
+-- Whatever words lie past the store's end, no run is changed by them or changes them.
 pub record WithinStore {A : Type 0} (coded : A → Result ℕ KindFault) (meant : ℕ → Option A) (m : Machine) (os : List (Order A)) : Type 0 where
   pub reads-none : (beyond : List ℕ) → replies coded meant (padded m beyond) os ≡ replies coded meant m os
   pub writes-none : (beyond : List ℕ) → machineAfter coded meant (padded m beyond) os ≡ padded (machineAfter coded meant m os) beyond
