@@ -1,7 +1,7 @@
 -- What each refusal of the console names, and its text.
 use Rattle.std.specs.Prelude.{ℕ, List, ◌++◌, codes, decimal}
-use Rattle.answer.specs.declared.fault.ConsoleFault.TheVariants.{Column, Memory}
-use Rattle.answer.specs.declared.fault.ConsoleFault.{ConsoleFault}
+use Rattle.answer.specs.declared.faults.ConsoleFault.TheVariants.{Column, Memory}
+use Rattle.answer.specs.declared.faults.ConsoleFault.{ConsoleFault}
 use Rattle.fault.specs.declared.Layer.TheVariants.{Console}
 use Rattle.fault.specs.declared.Report.{Report}
 use Rattle.machine.specs.Refusals.{memory_report}

@@ -3,7 +3,7 @@ use Rattle.std.specs.Prelude.{ℕ, true, false, List, ◌++◌, Ok, Err, codes, 
 use Rattle.answer.specs.Refused.{fault_text}
 use Rattle.answer.specs.declared.answer.Answer.TheVariants.{Done, Shown, Equal}
 use Rattle.answer.specs.declared.answer.Answer.{Answer}
-use Rattle.answer.specs.declared.fault.ConsoleFault.{ConsoleFault}
+use Rattle.answer.specs.declared.faults.ConsoleFault.{ConsoleFault}
 use Rattle.atom.specs.Shown.{axis_text}
 use Rattle.atom.specs.declared.axis.AxisWord.{AxisWord}
 use Rattle.machine.specs.declared.sight.Sight.TheVariants.{Nil, Cell, Atom}

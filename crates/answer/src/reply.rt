@@ -3,7 +3,7 @@ ghost use Rattle.answer.specs.Texts.{reply_text};
 ghost use Rattle.std.specs.Prelude.{Some};
 
 use super::answer::Answer;
-use super::fault::ConsoleFault;
+use super::faults::ConsoleFault;
 use std::fmt;
 
 #[derive(Clone, Copy)]

@@ -3,8 +3,8 @@ use Rattle.std.specs.Prelude.{◌≡◌, ℕ, ◌+◌, ◌*◌, ◌/◌, ◌%◌
 use Rattle.atom.specs.Placed.{around, offset}
 use Rattle.atom.specs.declared.axis.AxisWord.TheVariants.{X, Y, Z, D, T}
 use Rattle.atom.specs.declared.axis.AxisWord.{AxisWord}
-use Rattle.atom.specs.declared.fault.KindFault.TheVariants.{OutOfRange}
-use Rattle.atom.specs.declared.fault.KindFault.{KindFault}
+use Rattle.atom.specs.declared.faults.KindFault.TheVariants.{OutOfRange}
+use Rattle.atom.specs.declared.faults.KindFault.{KindFault}
 
 -- a move to a target in micrometres: the payload is the target plus 2^23
 abbrev pub move_code : ℕ → ℤ → Result ℕ KindFault

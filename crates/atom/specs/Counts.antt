@@ -3,8 +3,8 @@ use Rattle.std.specs.Prelude.{◌≡◌, ℕ, ◌+◌, ◌^◌, cond, ◌&&◌, 
 use Rattle.atom.specs.Placed.{around, offset}
 use Rattle.atom.specs.Refused.{kind_report}
 use Rattle.atom.specs.declared.count.Count.{Count}
-use Rattle.atom.specs.declared.fault.KindFault.TheVariants.{OutOfRange}
-use Rattle.atom.specs.declared.fault.KindFault.{KindFault}
+use Rattle.atom.specs.declared.faults.KindFault.TheVariants.{OutOfRange}
+use Rattle.atom.specs.declared.faults.KindFault.{KindFault}
 
 abbrev pub count : ℤ → Count
 count v = record { value = v }

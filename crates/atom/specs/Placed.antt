@@ -1,7 +1,7 @@
 -- How a whole number, negative or not, lies among the words.
 use Rattle.std.specs.Prelude.{ℕ, suc, ◌+◌, ◌-◌, cond, ℤ, pos, negsuc, Ok, Err, Result, nat_le, nat_lt}
-use Rattle.atom.specs.declared.fault.KindFault.TheVariants.{OutOfRange}
-use Rattle.atom.specs.declared.fault.KindFault.{KindFault}
+use Rattle.atom.specs.declared.faults.KindFault.TheVariants.{OutOfRange}
+use Rattle.atom.specs.declared.faults.KindFault.{KindFault}
 
 -- the numbers from −half to half − 1, in order, with zero at the word `zeroth`
 abbrev pub around : ℕ → ℕ → ℤ → Result ℕ KindFault

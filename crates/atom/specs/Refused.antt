@@ -1,6 +1,6 @@
 -- What a kind's refusal names.
-use Rattle.atom.specs.declared.fault.KindFault.{KindFault}
-use Rattle.atom.specs.declared.fault.KindFault.TheVariants.{OutOfRange}
+use Rattle.atom.specs.declared.faults.KindFault.{KindFault}
+use Rattle.atom.specs.declared.faults.KindFault.TheVariants.{OutOfRange}
 use Rattle.fault.specs.declared.Layer.TheVariants.{Kind}
 use Rattle.fault.specs.declared.Report.{Report}
 

@@ -4,7 +4,7 @@ ghost use Rattle.std.specs.Prelude.{◌≡◌, ◌^◌, ◌≤◌};
 ghost use Rattle.atom.specs.declared.axis.AxisWord.TheVariants.{X, Y, Z, D, T};
 ghost use Rattle.std.proofs.Common.{rules};
 
-use super::fault::KindFault;
+use super::faults::KindFault;
 use super::kind::Atom;
 
 #[derive(Clone, Copy, PartialEq, Eq, Debug)]

@@ -2,7 +2,7 @@
 ghost use Rattle.atom.specs.Counts.{count_code, count_read};
 ghost use Rattle.std.proofs.Common.{rules};
 
-use super::fault::KindFault;
+use super::faults::KindFault;
 use super::kind::Atom;
 
 #[derive(Clone, Copy, PartialEq, Eq, Debug)]

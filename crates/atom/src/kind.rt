@@ -1,8 +1,8 @@
 // What an atom kind is: a code for each atom within its ranges, and a reading that gives that atom back.
 ghost use Rattle.std.specs.Prelude.{◌≡◌, ℕ, ◌^◌, ◌<◌, ◌≤◌, Some, Ok, Option, Result};
-ghost use Rattle.atom.specs.declared.fault.KindFault.{KindFault};
+ghost use Rattle.atom.specs.declared.faults.KindFault.{KindFault};
 
-use super::fault::KindFault;
+use super::faults::KindFault;
 
 pub trait Atom: Copy {
     // the code of an atom, or the refusal of one outside the ranges

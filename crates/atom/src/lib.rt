@@ -1,7 +1,9 @@
 // Atoms and the words that stand for them.
+#![tactic(auto)]
+
 pub mod axis;
 pub mod count;
-pub mod fault;
+pub mod faults;
 pub mod kind;
 pub mod shown;
 pub mod values;

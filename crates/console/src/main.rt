@@ -1,4 +1,6 @@
 // The console: commands from standard input, a transcript to standard output.
+#![tactic(auto)]
+
 ghost use Rattle.console.specs.Console.{console_machine};
 ghost use Rattle.session.specs.Transcript.{transcript};
 ghost use Rattle.std.specs.Prelude.{◌≡◌, IfOk, string_bytes};

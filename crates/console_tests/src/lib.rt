@@ -1,4 +1,6 @@
 // Whole texts given to the console's session, compared with what it must write.
+#![tactic(auto)]
+
 #[cfg(test)]
 mod tests {
     use atom::axis::AxisWord;

@@ -1,11 +1,11 @@
 -- Every call that makes a list keeps the holds taken.
 use Rattle.std.proofs.Common.{◌≡◌, ℕ, zero, suc, Bool, true, false, cond, List, [], ◌∷◌, get_or, is_some, Some, None, Ok, Err, Option, Result, sym, refl, ◌∙◌, subst}
-use Rattle.atom.specs.declared.fault.KindFault.{KindFault}
+use Rattle.atom.specs.declared.faults.KindFault.{KindFault}
 use Rattle.controller.specs.Keeping.{Keeps}
 use Rattle.machine.specs.Calls.{unless, admitted, done, put_code, set_call, cons_call}
 use Rattle.machine.specs.Heap.{Heap, along, move_hold}
 use Rattle.machine.specs.Machine.{Machine, flip, flip_due, collected, room}
-use Rattle.machine.specs.declared.fault.MemoryFault.{MemoryFault}
+use Rattle.machine.specs.declared.faults.MemoryFault.{MemoryFault}
 
 pub keeps_not : (m : Machine) → Keeps m m
 keeps_not m = record { opening = refl; agreed = refl; taken = λ p. refl }

@@ -5,7 +5,7 @@ use crate::stop::Stop;
 use crate::told::{outcome, tell_moves, tell_room, tell_tally};
 use atom::axis::AxisWord;
 use atom::count::Count;
-use machine::fault::MemoryFault;
+use machine::faults::MemoryFault;
 use memory::memory::ListMemory;
 use store::words::Store;
 

@@ -10,7 +10,7 @@ ghost use Rattle.memory.specs.Tokens.{Held, pass_of};
 ghost use Rattle.memory.specs.View.{machine};
 
 use atom::kind::Atom;
-use machine::fault::MemoryFault;
+use machine::faults::MemoryFault;
 use memory::memory::ListMemory;
 use memory::token::Token;
 use store::words::Store;

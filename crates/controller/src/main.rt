@@ -1,4 +1,6 @@
 // The controller: mills a pocket from one list memory and tallies the passes in another.
+#![tactic(auto)]
+
 use atom::axis::AxisWord;
 use atom::count::Count;
 use job::run;

@@ -1,5 +1,5 @@
 // Why a job stops early.
-use machine::fault::MemoryFault;
+use machine::faults::MemoryFault;
 use std::io;
 
 #[derive(Drop)]

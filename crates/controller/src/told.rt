@@ -2,7 +2,7 @@
 use crate::lists::{Fed, Room};
 use atom::axis::AxisWord;
 use atom::count::Count;
-use machine::fault::MemoryFault;
+use machine::faults::MemoryFault;
 use std::io;
 
 fn ending(ended: bool) -> &'static str {

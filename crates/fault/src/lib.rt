@@ -1,4 +1,6 @@
 // What every refusal names, whichever layer it comes from.
+#![tactic(auto)]
+
 ghost use Rattle.fault.specs.declared.Report.{Report};
 ghost use Rattle.std.specs.Prelude.{◌≡◌};
 

@@ -3,7 +3,7 @@ use Rattle.std.specs.Prelude.{ℕ, Some, None, Ok, Err, Option, Result}
 use Rattle.hold_uses.specs.declared.anew.Stopped.{Stopped}
 use Rattle.machine.specs.Holds.{Pass, KeptPass, hold_call, back_call}
 use Rattle.machine.specs.Machine.{Machine}
-use Rattle.machine.specs.declared.fault.MemoryFault.{MemoryFault}
+use Rattle.machine.specs.declared.faults.MemoryFault.{MemoryFault}
 use Rattle.memory.specs.Tokens.{pass_of}
 use Rattle.memory.specs.declared.token.Token.{Token}
 

@@ -3,7 +3,7 @@ use Rattle.std.specs.Prelude.{◌≡◌, ℕ, false, Some, None, Ok, Err, Option
 use Rattle.machine.specs.Calls.{Call, refused, look_call}
 use Rattle.machine.specs.Holds.{Pass, hold_call}
 use Rattle.machine.specs.Machine.{Machine}
-use Rattle.machine.specs.declared.fault.MemoryFault.{MemoryFault}
+use Rattle.machine.specs.declared.faults.MemoryFault.{MemoryFault}
 use Rattle.machine.specs.declared.sight.Sight.{Sight}
 use Rattle.machine.specs.declared.sight.Sight.TheVariants.{Nil, Cell, Atom}
 use Rattle.memory.specs.Tokens.{pass_of}

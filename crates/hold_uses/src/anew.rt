@@ -5,7 +5,7 @@ ghost use Rattle.memory.specs.View.{machine};
 ghost use Rattle.std.specs.Prelude.{◌≡◌, Some, None};
 
 use atom::kind::Atom;
-use machine::fault::MemoryFault;
+use machine::faults::MemoryFault;
 use memory::memory::ListMemory;
 use memory::token::{Kept, Token};
 use store::words::Store;

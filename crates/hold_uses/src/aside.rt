@@ -4,7 +4,7 @@ ghost use Rattle.memory.specs.View.{machine};
 ghost use Rattle.std.specs.Prelude.{◌≡◌};
 
 use atom::kind::Atom;
-use machine::fault::MemoryFault;
+use machine::faults::MemoryFault;
 use machine::sight::Sight;
 use memory::memory::ListMemory;
 use memory::token::Token;

@@ -1,4 +1,6 @@
 // Laws of the console's language: words and lines, spelling, and commands that are read as they are written.
+#![tactic(auto)]
+
 ghost use Rattle.language.specs.Laws.{WordsRejoin, LinesReturn, SpellingDecides, CommandsReturn};
 
 pub fn words_rejoin() -> u8

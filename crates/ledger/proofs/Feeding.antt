@@ -19,8 +19,8 @@ use Rattle.machine.specs.Heap.{Heap, move_at}
 use Rattle.machine.specs.Holds.{with_hold, hold_at, vacant, may_hold}
 use Rattle.machine.specs.Machine.{Machine, register, with_register, with_heap}
 use Rattle.machine.specs.Words.{is_reference, cell_of, refer}
-use Rattle.machine.specs.declared.fault.MemoryFault.{MemoryFault}
-use Rattle.machine.specs.declared.fault.MemoryFault.TheVariants.{Shut, NotCell, NotAtom, NoHold}
+use Rattle.machine.specs.declared.faults.MemoryFault.{MemoryFault}
+use Rattle.machine.specs.declared.faults.MemoryFault.TheVariants.{Shut, NotCell, NotAtom, NoHold}
 use Rattle.machine.specs.declared.side.Side.TheVariants.{Head, Tail}
 use Rattle.std.proofs.lemmas.List.{get_or-set_same}
 use Rattle.std.proofs.lemmas.Bool.{cases_eq, cases_lt, lt-ltb, le-ltb}

@@ -13,8 +13,8 @@ use Rattle.ledger.specs.Ledger.{Ledger, Entry, put}
 use Rattle.machine.specs.Calls.{Call, unless, known, admitted}
 use Rattle.machine.specs.Holds.{Pass, KeptPass, with_hold, hold_at, vacant, may_hold, hold_call, BackCall, kept_back, given_back, held_for, back_unless, back_call}
 use Rattle.machine.specs.Machine.{Machine, register, with_register}
-use Rattle.machine.specs.declared.fault.MemoryFault.{MemoryFault}
-use Rattle.machine.specs.declared.fault.MemoryFault.TheVariants.{Shut, NoHold, HoldTaken, NotHeld}
+use Rattle.machine.specs.declared.faults.MemoryFault.{MemoryFault}
+use Rattle.machine.specs.declared.faults.MemoryFault.TheVariants.{Shut, NoHold, HoldTaken, NotHeld}
 use Rattle.std.proofs.lemmas.List.{get_or-set_same, get_or-set_other, length-set, get_or_past}
 use Rattle.std.proofs.lemmas.Bool.{cases_eq, cases_lt, lt-ltb, le-ltb}
 

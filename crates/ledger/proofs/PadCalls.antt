@@ -1,6 +1,6 @@
 -- No call of a run looks past the store's end.
 use Rattle.std.proofs.Common.{◌≡◌, ℕ, zero, suc, ◌+◌, ◌-◌, ◌*◌, ◌<◌, ◌≤◌, Bool, true, false, cond, eqb, ltb, leb, List, [], ◌∷◌, ◌++◌, length, get_or, set, Some, None, Ok, Err, Option, Result, sym, refl, ap, ◌∙◌, arith}
-use Rattle.atom.specs.declared.fault.KindFault.{KindFault}
+use Rattle.atom.specs.declared.faults.KindFault.{KindFault}
 use Rattle.ledger.proofs.Collect.{collect_agrees}
 use Rattle.ledger.proofs.Feeding.{held_start, shape_of, mended, head_agrees, tail_agrees}
 use Rattle.ledger.proofs.Flip.{Agrees}
@@ -22,8 +22,8 @@ use Rattle.machine.specs.Heap.{Heap, Step, move_at, with_words, lower_top}
 use Rattle.machine.specs.Holds.{Pass, with_hold, may_hold, hold_call, BackCall, back_call, back_unless, given_back, held_for}
 use Rattle.machine.specs.Machine.{Machine, register, with_register, with_heap, collected, room, grant}
 use Rattle.machine.specs.Words.{is_reference, sight_of, refer, cell_of, place_of, put_cell}
-use Rattle.machine.specs.declared.fault.MemoryFault.{MemoryFault}
-use Rattle.machine.specs.declared.fault.MemoryFault.TheVariants.{NotCell, NotAtom}
+use Rattle.machine.specs.declared.faults.MemoryFault.{MemoryFault}
+use Rattle.machine.specs.declared.faults.MemoryFault.TheVariants.{NotCell, NotAtom}
 use Rattle.machine.specs.declared.side.Side.{Side}
 use Rattle.machine.specs.declared.sight.Sight.{Sight}
 use Rattle.machine.specs.declared.side.Side.TheVariants.{Head, Tail}

@@ -1,6 +1,6 @@
 -- A run of calls on a memory and on the ledger.
 use Rattle.std.proofs.Common.{◌≡◌, ℕ, zero, suc, ◌+◌, ◌*◌, ◌^◌, ◌<◌, ◌≤◌, Bool, true, List, [], ◌∷◌, Some, None, Ok, Err, Option, Result, sym, refl, ap, ◌∙◌, arith}
-use Rattle.atom.specs.declared.fault.KindFault.{KindFault}
+use Rattle.atom.specs.declared.faults.KindFault.{KindFault}
 use Rattle.ledger.proofs.Feeding.{feed_matches}
 use Rattle.ledger.proofs.Flip.{Agrees}
 use Rattle.ledger.proofs.Holding.{hold_matches, back_matches}
@@ -13,7 +13,7 @@ use Rattle.ledger.specs.Ledger.{Ledger, Entry}
 use Rattle.ledger.specs.Runs.{Order, cons, car, cdr, rplaca, rplacd, put, load, clear, look, same, hold, back, feed, Reply, did, showed, judged, handed, took, wrote, Turn, told, turn, page, replies, machine_after, ledger_replies, ledger_after, tells}
 use Rattle.machine.specs.Calls.{Call}
 use Rattle.machine.specs.Machine.{Machine, Terms}
-use Rattle.machine.specs.declared.fault.MemoryFault.{MemoryFault}
+use Rattle.machine.specs.declared.faults.MemoryFault.{MemoryFault}
 use Rattle.machine.specs.declared.side.Side.TheVariants.{Head, Tail}
 
 -- what an atom kind promises

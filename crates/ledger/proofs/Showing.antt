@@ -1,6 +1,6 @@
 -- What a root shows is what the ledger shows, so a refused call, which leaves the ledger as it was, leaves it.
 use Rattle.std.proofs.Common.{◌≡◌, ℕ, ◌+◌, ◌*◌, ◌<◌, ◌≤◌, Bool, true, false, List, [], ◌∷◌, is_some, Some, None, Ok, Err, Option, Result, sym, refl, ap, ◌∙◌, subst, arith}
-use Rattle.atom.specs.declared.fault.KindFault.{KindFault}
+use Rattle.atom.specs.declared.faults.KindFault.{KindFault}
 use Rattle.ledger.proofs.Flip.{Agrees}
 use Rattle.ledger.proofs.Opening.{roots_taken, root_stands}
 use Rattle.ledger.proofs.Roots.{WordStands}
@@ -18,7 +18,7 @@ use Rattle.machine.specs.Calls.{Call, known, fetch_call, look_call}
 use Rattle.machine.specs.Holds.{Pass}
 use Rattle.machine.specs.Machine as machine
 use Rattle.machine.specs.Machine.{Machine}
-use Rattle.machine.specs.declared.fault.MemoryFault.{MemoryFault}
+use Rattle.machine.specs.declared.faults.MemoryFault.{MemoryFault}
 use Rattle.machine.specs.declared.side.Side.{Side}
 use Rattle.machine.specs.declared.side.Side.TheVariants.{Head, Tail}
 use Rattle.machine.specs.declared.sight.Sight.{Sight}

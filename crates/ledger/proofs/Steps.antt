@@ -18,7 +18,7 @@ use Rattle.machine.specs.Heap as heap
 use Rattle.machine.specs.Heap.{Heap, Marks, used, scan_over, lower_top, move_at, with_words}
 use Rattle.machine.specs.Machine.{Machine, register, with_register, with_heap, grant, allocate, new_cell, room}
 use Rattle.machine.specs.Words.{refer, cell_of, is_reference, place_of, put_cell}
-use Rattle.machine.specs.declared.fault.MemoryFault.{MemoryFault}
+use Rattle.machine.specs.declared.faults.MemoryFault.{MemoryFault}
 use Rattle.machine.specs.declared.side.Side.{Side}
 use Rattle.machine.specs.declared.side.Side.TheVariants.{Head, Tail}
 use Rattle.std.proofs.lemmas.List.{get_or-set_same, get_or-set_other, length-set}

@@ -11,8 +11,8 @@ use Rattle.ledger.specs.Ledger.{Ledger, Few}
 use Rattle.machine.specs.Calls.{Call, allocated, cons_call, unless, done}
 use Rattle.machine.specs.Heap.{Heap, Marks, used, scan_over, scan, trade}
 use Rattle.machine.specs.Machine.{Machine, flip, flip_due, flip_if_due, flip_line, collected, with_heap, room, grant, ceiling}
-use Rattle.machine.specs.declared.fault.MemoryFault.{MemoryFault}
-use Rattle.machine.specs.declared.fault.MemoryFault.TheVariants.{Scanning, Full}
+use Rattle.machine.specs.declared.faults.MemoryFault.{MemoryFault}
+use Rattle.machine.specs.declared.faults.MemoryFault.TheVariants.{Scanning, Full}
 use Rattle.std.proofs.lemmas.Bool.{cases_eq, lt-ltb, eq-eqb, ne_eqb}
 use Rattle.std.proofs.lemmas.Bool.Decides.{nat_tests}
 

@@ -1,6 +1,6 @@
 -- Each call of the memory answers as the ledger does, and they still agree.
 use Rattle.std.proofs.Common.{◌≡◌, ℕ, ◌+◌, ◌-◌, ◌*◌, ◌^◌, ◌<◌, ◌≤◌, Bool, true, false, cond, eqb, ltb, leb, ◌⊎◌, List, [], ◌∷◌, get_or, Some, None, Ok, Err, Option, Result, sym, refl, ap, ◌∙◌, subst, inl, inr, arith}
-use Rattle.atom.specs.declared.fault.KindFault.{KindFault}
+use Rattle.atom.specs.declared.faults.KindFault.{KindFault}
 use Rattle.ledger.proofs.Collect.{collect_agrees}
 use Rattle.ledger.proofs.Flip.{Agrees}
 use Rattle.ledger.proofs.Roots.{WordStands}
@@ -18,8 +18,8 @@ use Rattle.machine.specs.Heap as heap
 use Rattle.machine.specs.Heap.{Heap, Marks, scan_over}
 use Rattle.machine.specs.Machine.{Machine, register, with_register, collected, flip, flip_due, room, grant}
 use Rattle.machine.specs.Words.{is_reference, refer, sight_of, shown}
-use Rattle.machine.specs.declared.fault.MemoryFault.{MemoryFault}
-use Rattle.machine.specs.declared.fault.MemoryFault.TheVariants.{Shut, NoRegister, NotCell, Kind, Scanning, Full}
+use Rattle.machine.specs.declared.faults.MemoryFault.{MemoryFault}
+use Rattle.machine.specs.declared.faults.MemoryFault.TheVariants.{Shut, NoRegister, NotCell, Kind, Scanning, Full}
 use Rattle.machine.specs.declared.side.Side.{Side}
 use Rattle.std.proofs.lemmas.Bool.{cases_eq, eq-eqb, ne_eqb}
 use Rattle.std.proofs.lemmas.Bool.Decides.{nat_tests}

@@ -1,6 +1,6 @@
 -- The law, whole: from a granted opening, over every run.
 use Rattle.std.proofs.Common.{◌≡◌, ℕ, zero, suc, ◌+◌, ◌-◌, ◌*◌, ◌/◌, ◌<◌, ◌≤◌, Bool, true, false, cond, ltb, List, [], ◌∷◌, length, is_some, Some, None, Ok, Err, Option, Result, sym, refl, ap, ◌∙◌, subst, inl, inr, arith}
-use Rattle.atom.specs.declared.fault.KindFault.{KindFault}
+use Rattle.atom.specs.declared.faults.KindFault.{KindFault}
 use Rattle.ledger.proofs.Flip.{Agrees}
 use Rattle.ledger.proofs.Invariant.{Inv}
 use Rattle.ledger.proofs.NoneRefused.{Keeps, none_refused, collected_size}
@@ -22,7 +22,7 @@ use Rattle.machine.specs.Heap as heap
 use Rattle.machine.specs.Heap.{Heap, Marks}
 use Rattle.machine.specs.Machine.{Machine, Terms, fresh_machine, ceiling, collected, room, grant}
 use Rattle.machine.specs.Words.{refers_into}
-use Rattle.machine.specs.declared.fault.MemoryFault.{MemoryFault}
+use Rattle.machine.specs.declared.faults.MemoryFault.{MemoryFault}
 use Rattle.std.proofs.lemmas.Bool.{cases_lt}
 use Rattle.std.proofs.lemmas.Bool.Decides.{nat_tests as tests}
 

@@ -1,11 +1,11 @@
 -- What the ledger answers to each call, and what it has then: each call as the memory's, with cells that never move.
 use Rattle.std.specs.Prelude.{ℕ, zero, suc, ◌+◌, Bool, true, false, cond, List, [], ◌∷◌, length, Some, None, Ok, Err, Option, Result, ◌==◌, nat_lt, slice_set}
-use Rattle.atom.specs.declared.fault.KindFault.{KindFault}
+use Rattle.atom.specs.declared.faults.KindFault.{KindFault}
 use Rattle.ledger.specs.Ledger.{Ledger, Row, Entry, nil, atom, cell, entry, rewritten, booked, with_register, with_hold, with_row}
 use Rattle.machine.specs.Calls.{known}
 use Rattle.machine.specs.Holds.{Pass, KeptPass}
-use Rattle.machine.specs.declared.fault.MemoryFault.{MemoryFault}
-use Rattle.machine.specs.declared.fault.MemoryFault.TheVariants.{NotCell, Kind, Scanning, Full, NoHold, HoldTaken, NotHeld, NotAtom}
+use Rattle.machine.specs.declared.faults.MemoryFault.{MemoryFault}
+use Rattle.machine.specs.declared.faults.MemoryFault.TheVariants.{NotCell, Kind, Scanning, Full, NoHold, HoldTaken, NotHeld, NotAtom}
 use Rattle.machine.specs.declared.side.Side.{Side}
 use Rattle.machine.specs.declared.sight.Sight.TheVariants as sight
 use Rattle.machine.specs.declared.sight.Sight.{Sight}

@@ -1,6 +1,6 @@
 -- The law of a list memory: whatever is called, it answers as the ledger does.
 use Rattle.std.specs.Prelude.{◌≡◌, ℕ, zero, suc, ◌+◌, ◌*◌, ◌<◌, ◌≤◌, Bool, true, false, cond, List, [], ◌∷◌, is_some, Some, None, Ok, Err, Option, Result, nat_lt, slice_index}
-use Rattle.atom.specs.declared.fault.KindFault.{KindFault}
+use Rattle.atom.specs.declared.faults.KindFault.{KindFault}
 use Rattle.ledger.specs.Answers.{Told, granted}
 use Rattle.ledger.specs.Ledger.{Ledger, Entry, Few}
 use Rattle.ledger.specs.Padded.{WithinStore}
@@ -12,7 +12,7 @@ use Rattle.machine.specs.Holds.{hold_at}
 use Rattle.machine.specs.Machine as machine
 use Rattle.machine.specs.Machine.{Machine, ceiling}
 use Rattle.machine.specs.Words.{refers_into}
-use Rattle.machine.specs.declared.fault.MemoryFault.{MemoryFault}
+use Rattle.machine.specs.declared.faults.MemoryFault.{MemoryFault}
 use Rattle.machine.specs.declared.side.Side.{Side}
 use Rattle.machine.specs.declared.sight.Sight.{Sight}
 

@@ -1,6 +1,6 @@
 -- A memory over a store with more words at its end.
 use Rattle.std.specs.Prelude.{◌≡◌, ℕ, List, ◌++◌, Option, Result}
-use Rattle.atom.specs.declared.fault.KindFault.{KindFault}
+use Rattle.atom.specs.declared.faults.KindFault.{KindFault}
 use Rattle.ledger.specs.Runs.{Order, replies, machine_after}
 use Rattle.machine.specs.Heap.{Heap, with_words}
 use Rattle.machine.specs.Machine.{Machine, with_heap}

@@ -1,14 +1,14 @@
 -- Runs of calls, on a memory and on the ledger.
 use Rattle.std.specs.Prelude.{ℕ, Bool, List, [], ◌∷◌, None, Ok, Err, Option, Result}
-use Rattle.atom.specs.declared.fault.KindFault.{KindFault}
+use Rattle.atom.specs.declared.faults.KindFault.{KindFault}
 use Rattle.ledger.specs.Answers.{Told, granted, scanning, full, Said, cons_says, fetch_says, replace_says, set_says, load_says, clear_says, look_says, same_says, hold_says, back_says, feed_says}
 use Rattle.ledger.specs.Ledger.{Ledger, Entry, nil}
 use Rattle.machine.specs.Calls.{Call, cons_call, fetch_call, replace_call, set_call, load_call, clear_call, look_call, same_call}
 use Rattle.machine.specs.Feed.{feed_call}
 use Rattle.machine.specs.Holds.{Pass, KeptPass, hold_call, back_call}
 use Rattle.machine.specs.Machine.{Machine}
-use Rattle.machine.specs.declared.fault.MemoryFault.{MemoryFault}
-use Rattle.machine.specs.declared.fault.MemoryFault.TheVariants as fault
+use Rattle.machine.specs.declared.faults.MemoryFault.{MemoryFault}
+use Rattle.machine.specs.declared.faults.MemoryFault.TheVariants as fault
 use Rattle.machine.specs.declared.side.Side.TheVariants.{Head, Tail}
 use Rattle.machine.specs.declared.sight.Sight.{Sight}
 

@@ -5,8 +5,8 @@ use Rattle.machine.specs.Heap.{move_at}
 use Rattle.machine.specs.Holds.{may_hold, with_hold}
 use Rattle.machine.specs.Machine.{Machine, register, with_heap, with_register}
 use Rattle.machine.specs.Words.{is_reference, cell_of}
-use Rattle.machine.specs.declared.fault.MemoryFault.{MemoryFault}
-use Rattle.machine.specs.declared.fault.MemoryFault.TheVariants.{NotCell, NotAtom}
+use Rattle.machine.specs.declared.faults.MemoryFault.{MemoryFault}
+use Rattle.machine.specs.declared.faults.MemoryFault.TheVariants.{NotCell, NotAtom}
 use Rattle.machine.specs.declared.side.Side.TheVariants.{Tail}
 
 -- the machine, the buffer and the answer: how many atoms were written, and whether the list ended

@@ -2,8 +2,8 @@
 use Rattle.std.specs.Prelude.{ℕ, cond, [], ◌∷◌, set, Some, None, Ok, Err, Option, Result, ◌==◌, nat_lt, slice_index_or, slice_set}
 use Rattle.machine.specs.Calls.{Call, refused, unless, admitted}
 use Rattle.machine.specs.Machine.{Machine, register, with_register}
-use Rattle.machine.specs.declared.fault.MemoryFault.{MemoryFault}
-use Rattle.machine.specs.declared.fault.MemoryFault.TheVariants.{NoHold, HoldTaken, NotHeld}
+use Rattle.machine.specs.declared.faults.MemoryFault.{MemoryFault}
+use Rattle.machine.specs.declared.faults.MemoryFault.TheVariants.{NoHold, HoldTaken, NotHeld}
 
 abbrev pub with_hold : Machine → ℕ → Option ℕ → Machine
 with_hold m p hold =

@@ -2,8 +2,8 @@
 use Rattle.std.specs.Prelude.{ℕ, ◌+◌, ◌-◌, ◌/◌, Bool, true, false, cond, List, replicate, None, Ok, Err, Option, Result, nat_le, nat_lt, slice_index, slice_set}
 use Rattle.machine.specs.Heap.{Heap, Marks, empty_marks, used, scan_over, here, lower_top, move, move_hold, along, scan, trade}
 use Rattle.machine.specs.Words.{refer, put_cell}
-use Rattle.machine.specs.declared.fault.MemoryFault.{MemoryFault}
-use Rattle.machine.specs.declared.fault.MemoryFault.TheVariants.{Scanning, Full}
+use Rattle.machine.specs.declared.faults.MemoryFault.{MemoryFault}
+use Rattle.machine.specs.declared.faults.MemoryFault.TheVariants.{Scanning, Full}
 
 -- Where every walk begins: 16 registers, each with a word, and 8 hold places, each free or taken with a word.
 pub record Roots : Type 0 where

@@ -3,8 +3,8 @@ use Rattle.std.specs.Prelude.{ℕ}
 use Rattle.atom.specs.Refused.{kind_report}
 use Rattle.fault.specs.declared.Layer.TheVariants.{Memory}
 use Rattle.fault.specs.declared.Report.{Report}
-use Rattle.machine.specs.declared.fault.MemoryFault.{MemoryFault}
-use Rattle.machine.specs.declared.fault.MemoryFault.TheVariants.{Shut, AlreadyOpen, HalfSize, Pace, Limit, NoRegister, NotCell, Kind, Scanning, Full, NoHold, HoldTaken, NotHeld, NotAtom}
+use Rattle.machine.specs.declared.faults.MemoryFault.{MemoryFault}
+use Rattle.machine.specs.declared.faults.MemoryFault.TheVariants.{Shut, AlreadyOpen, HalfSize, Pace, Limit, NoRegister, NotCell, Kind, Scanning, Full, NoHold, HoldTaken, NotHeld, NotAtom}
 
 abbrev pub of_memory : ℕ → ℕ → Report
 of_memory number place = record { number = number; layer = Memory; place = place }

@@ -5,7 +5,7 @@ use Rattle.atom.specs.declared.axis.AxisWord.TheVariants.{T}
 use Rattle.machine.specs.Calls.{Call, open_call, set_call, cons_call, clear_call}
 use Rattle.machine.specs.Machine.{Machine, shut_machine}
 use Rattle.machine.specs.Refusals.{memory_report}
-use Rattle.machine.specs.declared.fault.MemoryFault.{MemoryFault}
+use Rattle.machine.specs.declared.faults.MemoryFault.{MemoryFault}
 
 -- a call's outcome as a number: its refusal's, or 0 where it was granted
 abbrev pub outcome : Result (Unit {0}) MemoryFault → ℕ

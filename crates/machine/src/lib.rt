@@ -1,6 +1,8 @@
 // The words a list memory speaks in: its refusals, what a register shows, the two words of a cell.
 // What every call does is defined in specs/, on plain values.
-pub mod fault;
+#![tactic(auto)]
+
+pub mod faults;
 pub mod side;
 pub mod sight;
 pub mod worked;

@@ -4,8 +4,8 @@ use Rattle.machine.specs.Calls.{Call, unless, admitted}
 use Rattle.machine.specs.Feed.{Fed, fed, feed_unless, feed_call, handed_back, walk}
 use Rattle.machine.specs.Holds.{Pass, vacant, may_hold, with_hold, hold_at, hold_call, back_call}
 use Rattle.machine.specs.Machine.{Machine, register, with_register}
-use Rattle.machine.specs.declared.fault.MemoryFault.{MemoryFault}
-use Rattle.machine.specs.declared.fault.MemoryFault.TheVariants.{Shut, NoRegister, NoHold}
+use Rattle.machine.specs.declared.faults.MemoryFault.{MemoryFault}
+use Rattle.machine.specs.declared.faults.MemoryFault.TheVariants.{Shut, NoRegister, NoHold}
 use Rattle.memory.proofs.Walks.{walk_holds}
 use Rattle.std.proofs.lemmas.List.{get_or-set_same}
 use Rattle.std.proofs.lemmas.Bool.Decides.{nat_tests}

@@ -3,7 +3,7 @@ use Rattle.std.proofs.Common.{◌≡◌, ℕ, [], ◌∷◌, Ok, Err, Result, re
 use Rattle.machine.specs.Calls.{unless, admitted}
 use Rattle.machine.specs.Holds.{Pass, KeptPass, may_hold, hold_call}
 use Rattle.machine.specs.Machine.{Machine}
-use Rattle.machine.specs.declared.fault.MemoryFault.{MemoryFault}
+use Rattle.machine.specs.declared.faults.MemoryFault.{MemoryFault}
 use Rattle.memory.specs.Tokens.{kept}
 use Rattle.memory.specs.declared.token.Kept.{Kept}
 use Rattle.memory.specs.declared.token.Token.{Token}

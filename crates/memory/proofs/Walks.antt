@@ -4,8 +4,8 @@ use Rattle.machine.specs.Calls.{Call, refused, fetched}
 use Rattle.machine.specs.Feed.{Fed, fed, on_atom, walk, head_moved, head_of}
 use Rattle.machine.specs.Machine.{Machine, register}
 use Rattle.machine.specs.Words.{is_reference}
-use Rattle.machine.specs.declared.fault.MemoryFault.{MemoryFault}
-use Rattle.machine.specs.declared.fault.MemoryFault.TheVariants.{NotCell, NotAtom}
+use Rattle.machine.specs.declared.faults.MemoryFault.{MemoryFault}
+use Rattle.machine.specs.declared.faults.MemoryFault.TheVariants.{NotCell, NotAtom}
 use Rattle.machine.specs.declared.side.Side.TheVariants.{Tail}
 use Rattle.memory.specs.Steps.{next_call, past, SameHolds}
 

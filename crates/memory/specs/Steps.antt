@@ -4,7 +4,7 @@ use Rattle.machine.specs.Calls.{Call, refused, fetched}
 use Rattle.machine.specs.Feed.{head_moved, head_of}
 use Rattle.machine.specs.Machine.{Machine, register}
 use Rattle.machine.specs.Words.{is_reference}
-use Rattle.machine.specs.declared.fault.MemoryFault.TheVariants.{NotCell, NotAtom}
+use Rattle.machine.specs.declared.faults.MemoryFault.TheVariants.{NotCell, NotAtom}
 use Rattle.machine.specs.declared.side.Side.TheVariants.{Tail}
 
 -- with the head moved: r goes on to the tail past an atom, and anything else is refused

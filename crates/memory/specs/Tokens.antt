@@ -1,7 +1,7 @@
 -- Tokens and the passes they stand for.
 use Rattle.machine.specs.Holds.{Pass, KeptPass, hold_at}
 use Rattle.machine.specs.Machine.{Machine}
-use Rattle.machine.specs.declared.fault.MemoryFault.{MemoryFault}
+use Rattle.machine.specs.declared.faults.MemoryFault.{MemoryFault}
 use Rattle.memory.specs.declared.token.Kept.{Kept}
 use Rattle.memory.specs.declared.token.Token.{Token}
 use Rattle.std.specs.Prelude.{◌≡◌, true, false, is_some, Ok, Err, Result}

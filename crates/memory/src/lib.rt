@@ -1,3 +1,5 @@
 // The list memory: every call that a macro makes.
+#![tactic(auto)]
+
 pub mod memory;
 pub mod token;

@@ -8,7 +8,7 @@ ghost use Rattle.memory.specs.View.{machine};
 ghost use Rattle.std.specs.Prelude.{◌≡◌, List, Ok};
 
 use atom::kind::Atom;
-use machine::fault::MemoryFault;
+use machine::faults::MemoryFault;
 use semispace::state::State;
 use std::marker::PhantomData;
 use store::words::Store;

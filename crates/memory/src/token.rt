@@ -1,7 +1,7 @@
 // What a hold hands out, and what a refused back hands back.
 ghost use Rattle.std.specs.Prelude.{◌≡◌, ◌<◌, true, false};
 
-use machine::fault::MemoryFault;
+use machine::faults::MemoryFault;
 
 // The right to one taken hold place. Only a hold makes one, and it is let go only once a back has spent it.
 pub struct Token {

@@ -4,7 +4,7 @@ mod tests {
     use atom::axis::AxisWord;
     use atom::count::Count;
     use atom::kind::Atom;
-    use machine::fault::MemoryFault;
+    use machine::faults::MemoryFault;
     use machine::sight::Sight;
     use memory::memory::ListMemory;
     use std::test::Fail;

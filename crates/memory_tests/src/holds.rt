@@ -9,7 +9,7 @@ ghost use Rattle.memory.specs.View.{machine};
 mod tests {
     use atom::count::Count;
     use atom::kind::Atom;
-    use machine::fault::MemoryFault;
+    use machine::faults::MemoryFault;
     use machine::sight::Sight;
     use memory::memory::ListMemory;
     use memory::token::{Kept, Token};

@@ -1,4 +1,6 @@
 // Runs of a list memory over real stores.
+#![tactic(auto)]
+
 mod feeds;
 mod holds;
 mod openings;

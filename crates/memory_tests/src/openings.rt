@@ -4,7 +4,7 @@ mod tests {
     use atom::axis::AxisWord;
     use atom::count::Count;
     use fault::Refusal;
-    use machine::fault::MemoryFault;
+    use machine::faults::MemoryFault;
     use memory::memory::ListMemory;
     use std::test::Fail;
     use store::bank::BankStore;

@@ -1,4 +1,6 @@
 // The incremental copying collector over a store: two halves, the marks in the current one, and the roots.
+#![tactic(auto)]
+
 pub mod cells;
 pub mod halves;
 pub mod marks;

@@ -2,15 +2,15 @@
 use Rattle.std.specs.Prelude.{ℕ, List, Ok, Err, Result}
 use Rattle.answer.specs.declared.answer.Answer.TheVariants.{Done, Shown, Equal}
 use Rattle.answer.specs.declared.answer.Answer.{Answer}
-use Rattle.answer.specs.declared.fault.ConsoleFault.TheVariants.{Column, Memory}
-use Rattle.answer.specs.declared.fault.ConsoleFault.{ConsoleFault}
+use Rattle.answer.specs.declared.faults.ConsoleFault.TheVariants.{Column, Memory}
+use Rattle.answer.specs.declared.faults.ConsoleFault.{ConsoleFault}
 use Rattle.atom.specs.Axes.{axis_code, axis_read}
 use Rattle.command.specs.Commands.{parsed}
 use Rattle.command.specs.declared.command.Command.TheVariants.{Open, Set, Cons, Car, Cdr, Rplaca, Rplacd, Load, Clear, Look, Same}
 use Rattle.command.specs.declared.command.Command.{Command}
 use Rattle.machine.specs.Calls.{Call, open_call, set_call, cons_call, fetch_call, replace_call, load_call, clear_call, look_call, same_call}
 use Rattle.machine.specs.Machine.{Machine}
-use Rattle.machine.specs.declared.fault.MemoryFault.{MemoryFault}
+use Rattle.machine.specs.declared.faults.MemoryFault.{MemoryFault}
 use Rattle.machine.specs.declared.side.Side.TheVariants.{Head, Tail}
 
 -- a result, as the console gives it

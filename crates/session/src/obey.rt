@@ -5,11 +5,11 @@ ghost use Rattle.session.specs.Obeyed.{given, obeyed, reaction};
 ghost use Rattle.std.specs.Prelude.{◌≡◌};
 
 use answer::answer::Answer;
-use answer::fault::ConsoleFault;
+use answer::faults::ConsoleFault;
 use atom::axis::AxisWord;
 use command::command::Command;
 use command::parse::parse;
-use machine::fault::MemoryFault;
+use machine::faults::MemoryFault;
 use memory::memory::ListMemory;
 use store::words::Store;
 

@@ -2,8 +2,8 @@
 use Rattle.std.specs.Prelude.{ℕ, cond, List, length, Ok, Err, Result, nat_lt, slice_index}
 use Rattle.fault.specs.declared.Layer.TheVariants.{Store}
 use Rattle.fault.specs.declared.Report.{Report}
-use Rattle.store.specs.declared.fault.StoreFault.{StoreFault}
-use Rattle.store.specs.declared.fault.StoreFault.TheVariants.{Outside}
+use Rattle.store.specs.declared.faults.StoreFault.{StoreFault}
+use Rattle.store.specs.declared.faults.StoreFault.TheVariants.{Outside}
 
 -- number, layer and place of each case
 abbrev pub store_report : StoreFault → Report

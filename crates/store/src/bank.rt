@@ -2,7 +2,7 @@
 ghost use Rattle.std.specs.Prelude.{◌≡◌, ◌/◌, ◌<◌, min, length};
 ghost use Rattle.store.specs.Banks.{interleaved, bank_word, even_after, odd_after};
 
-use super::fault::{StoreFault, inside};
+use super::faults::{StoreFault, inside};
 use super::words::Store;
 
 #[derive(Drop)]

@@ -2,7 +2,7 @@
 ghost use Rattle.std.specs.Prelude.{◌≡◌, ◌*◌, ◌/◌, ◌<◌, length};
 ghost use Rattle.store.specs.Bytes.{byte_words, word_from, word_put};
 
-use super::fault::{StoreFault, inside};
+use super::faults::{StoreFault, inside};
 use super::words::Store;
 
 // One to three bytes left over at the end are never touched.

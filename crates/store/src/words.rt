@@ -2,7 +2,7 @@
 ghost use Rattle.std.specs.Prelude.{◌≡◌, ℕ, List, length, slice_set};
 ghost use Rattle.store.specs.Answers.{read_answer, write_answer};
 
-use super::fault::StoreFault;
+use super::faults::StoreFault;
 
 pub trait Store {
     // the list of words that the store means

@@ -1,11 +1,13 @@
 // Runs of the stores, alone and in piles.
+#![tactic(auto)]
+
 #[cfg(test)]
 mod tests {
     use fault::{Layer, Refusal};
     use std::test::Fail;
     use store::bank::BankStore;
     use store::bytes::ByteStore;
-    use store::fault::StoreFault;
+    use store::faults::StoreFault;
     use store::words::Store;
     use write_back::WriteBack;
 

@@ -1,4 +1,6 @@
 // The command words of the console.
+#![tactic(auto)]
+
 ghost use Rattle.verb.specs.Verbs.{verb_of};
 ghost use Rattle.std.specs.Prelude.{◌≡◌};
 

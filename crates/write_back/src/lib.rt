@@ -1,10 +1,12 @@
 // A layer over any store that sends its words down late. A pile of layers is again a store.
+#![tactic(auto)]
+
 ghost use Rattle.std.specs.Prelude.{◌≡◌, ℕ, ◌%◌, ◌<◌, length, None, Ok, slice_index_or, slice_set};
 ghost use Rattle.write_back.specs.Overlay.{overlaid};
 ghost use Rattle.write_back.specs.Sent.{own_in, sent_down, FreeFor};
 
 use entries::{Entries, Late};
-use store::fault::{StoreFault, inside};
+use store::faults::{StoreFault, inside};
 use store::words::Store;
 
 mod entries;

@@ -4,14 +4,14 @@ ghost use Rattle.machine.specs.Heap.{move_at};
 ghost use Rattle.machine.specs.Machine.{collected, with_heap};
 ghost use Rattle.machine.specs.Words.{is_reference};
 ghost use Rattle.machine.specs.Work.{ConsWork, FetchWork, NoWork};
-ghost use Rattle.machine.specs.declared.fault.MemoryFault.TheVariants.{NotCell};
+ghost use Rattle.machine.specs.declared.faults.MemoryFault.TheVariants.{NotCell};
 ghost use Rattle.machine.specs.declared.side.Side.TheVariants.{Head, Tail};
 ghost use Rattle.memory.specs.View.{machine};
 ghost use Rattle.std.specs.Prelude.{◌≡◌, if◌then◌else◌, Ok, Err};
 
 use super::ListMemory;
 use atom::kind::Atom;
-use machine::fault::MemoryFault;
+use machine::faults::MemoryFault;
 use machine::side::Side;
 use semispace::cells::{is_reference, place_of, put_word};
 use store::words::Store;

@@ -9,7 +9,7 @@ ghost use Rattle.memory.specs.View.{machine};
 use super::ListMemory;
 use crate::token::Token;
 use atom::kind::Atom;
-use machine::fault::MemoryFault;
+use machine::faults::MemoryFault;
 use machine::side::Side;
 use semispace::cells::{is_reference, place_of};
 use store::words::Store;

@@ -8,7 +8,7 @@ ghost use Rattle.std.specs.Prelude.{◌≡◌};
 use super::ListMemory;
 use crate::token::{Kept, Token};
 use atom::kind::Atom;
-use machine::fault::MemoryFault;
+use machine::faults::MemoryFault;
 use store::words::Store;
 
 impl<S: Store, A: Atom> ListMemory<S, A> {

@@ -7,7 +7,7 @@ ghost use Rattle.std.specs.Prelude.{◌≡◌};
 
 use super::ListMemory;
 use atom::kind::Atom;
-use machine::fault::MemoryFault;
+use machine::faults::MemoryFault;
 use machine::sight::Sight;
 use semispace::cells::is_reference;
 use store::words::Store;

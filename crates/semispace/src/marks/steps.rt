@@ -5,7 +5,7 @@ ghost use Rattle.machine.specs.Machine.{room};
 ghost use Rattle.semispace.specs.View.{marks_of};
 
 use super::Marks;
-use machine::fault::MemoryFault;
+use machine::faults::MemoryFault;
 
 impl Marks {
     // The marks of a half with nothing in it.

@@ -10,7 +10,7 @@ use crate::halves::Halves;
 use crate::marks::Marks;
 use crate::roots::Roots;
 use crate::terms::Terms;
-use machine::fault::MemoryFault;
+use machine::faults::MemoryFault;
 use store::words::Store;
 
 // The limit is above 0 and leaves room for what is allocated while the cells in reach are copied.

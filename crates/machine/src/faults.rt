@@ -1,9 +1,9 @@
 // The refusals of a list memory.
 ghost use Rattle.machine.specs.Refusals.{memory_report, of_memory};
-ghost use Rattle.machine.specs.declared.fault.MemoryFault.TheVariants as fault;
+ghost use Rattle.machine.specs.declared.faults.MemoryFault.TheVariants as fault;
 ghost use Rattle.std.specs.Prelude.{◌≡◌};
 
-use atom::fault::KindFault;
+use atom::faults::KindFault;
 use fault::{Layer, Refusal, Report};
 
 #[derive(Clone, Copy, PartialEq, Eq, Debug)]

@@ -1,10 +1,10 @@
 // The console's refusals.
 ghost use Rattle.answer.specs.Refused.{console_report, fault_text};
-ghost use Rattle.answer.specs.declared.fault.ConsoleFault.TheVariants as fault;
+ghost use Rattle.answer.specs.declared.faults.ConsoleFault.TheVariants as fault;
 ghost use Rattle.std.specs.Prelude.{◌≡◌, Some};
 
 use fault::{Layer, Refusal, Report};
-use machine::fault::MemoryFault;
+use machine::faults::MemoryFault;
 use std::fmt;
 
 #[derive(Clone, Copy, PartialEq, Eq, Debug)]
