@@ -6,6 +6,6 @@ pub returns : goal.returns
 unfolding giving
 returns g c = search rules
 
-pub returns-in-err-back : goal.returns-in-err-back
+pub returns-in_err-back : goal.returns-in_err-back
 unfolding giving
-returns-in-err-back g c = search rules
+returns-in_err-back g c = search rules

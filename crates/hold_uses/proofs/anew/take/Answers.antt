@@ -6,6 +6,6 @@ pub returns : goal.returns
 unfolding taking
 returns g c = search rules
 
-pub returns-in-err-hold : goal.returns-in-err-hold
+pub returns-in_err-hold : goal.returns-in_err-hold
 unfolding taking
-returns-in-err-hold g c = search rules
+returns-in_err-hold g c = search rules

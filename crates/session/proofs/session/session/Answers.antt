@@ -14,14 +14,14 @@ loop-from-preserved g c =
     let m : Machine = machine g.S.Store.words c.loop-from.memory in
     let m' : Machine = machine g.S.Store.words c.respond.new.memory in
     let text : List ℕ = c.args.text.now in
-    let line : List ℕ = c.first-piece-line.result.now in
+    let line : List ℕ = c.first_piece-line.result.now in
     let out : List ℕ = string_bytes c.loop-from.out in
     let cut : line ≡ take (before 10 (drop c.loop-from.from text)) (drop c.loop-from.from text) =
-    c.first-piece-line.ensures.answer ∙ ap (λ here. take (before 10 here) here) c.split-at.ensures.back in
+    c.first_piece-line.ensures.answer ∙ ap (λ here. take (before 10 here) here) c.split_at.ensures.back in
     let split = next_line text c.loop-from.from (omega arith) line cut in
-    let grown : string_bytes c.push-str.new.self ≡ out ++ (reply_text c.loop-from.number c.respond.result ++ (10 ∷ [])) =
-    pushed c.as-str.result.now refl c.in-ok-push-str.was c.push-str.ensures.bytes
-    ∙ ap (λ more. out ++ more) (c.as-str.ensures.value ∙ c.in-ok-format.ensures.ok) in (
+    let grown : string_bytes c.push_str.new.self ≡ out ++ (reply_text c.loop-from.number c.respond.result ++ (10 ∷ [])) =
+    pushed c.as_str.result.now refl c.in_ok-push_str.was c.push_str.ensures.bytes
+    ∙ ap (λ more. out ++ more) (c.as_str.ensures.value ∙ c.in_ok-format.ensures.ok) in (
       omega arith,
       one_more_reply _ m m' line _ _ split c.respond.ensures.after out _ _
           (grown ∙ ap (λ outcome. out ++ (reply_text c.loop-from.number outcome ++ (10 ∷ []))) c.respond.ensures.answer)

@@ -8,11 +8,11 @@ use Rattle.memory.specs.Tokens.{pass_of, passed}
 use Rattle.memory.specs.View.{machine}
 use Rattle.std.proofs.Common.{◌≡◌, length, Ok, Err, sym, ap, ◌∙◌, rules}
 
-pub returns-in-err-token : goal.returns-in-err-token
-returns-in-err-token g c =
+pub returns-in_err-token : goal.returns-in_err-token
+returns-in_err-token g c =
     let before : Machine = machine g.S.Store.words c.args.self.now in
-    let told = ap passed (sym c.in-err-token.was) ∙ c.hold.ensures.answer in
-    let refused : c.from-residual.result ≡ Err c.in-err-token.field-0.0 = search rules in
+    let told = ap passed (sym c.in_err-token.was) ∙ c.hold.ensures.answer in
+    let refused : c.from_residual.result ≡ Err c.in_err-token.field-0.0 = search rules in
     let all = feed_refused g.A.Atom.meant before c.args.r c.args.p c.args.buffer.now _ told in
     record {
       answer = refused ∙ sym (ap (λ w. w.answer) all);
@@ -23,11 +23,11 @@ returns-in-err-token g c =
 pub returns : goal.returns
 returns g c =
     let before : Machine = machine g.S.Store.words c.args.self.now in
-    let told = ap passed (sym c.in-ok-token.was) ∙ c.hold.ensures.answer in
-    let all = feed_held g.A.Atom.meant before c.args.r c.args.p c.args.buffer.now (pass_of c.in-ok-token.token) c.args.self.now.state.roots.sized.1 told in
+    let told = ap passed (sym c.in_ok-token.was) ∙ c.hold.ensures.answer in
+    let all = feed_held g.A.Atom.meant before c.args.r c.args.p c.args.buffer.now (pass_of c.in_ok-token.token) c.args.self.now.state.roots.sized.1 told in
     let held = ap (λ m. walk g.A.Atom.meant c.args.r (length c.args.buffer.now) 0 m c.args.buffer.now) c.hold.ensures.after in
     record {
       answer = c.feed_held.ensures.answer ∙ ap (λ w. w.answer) held ∙ sym (ap (λ w. w.answer) all);
-      after = c.feed_held.ensures.after ∙ ap (λ w. (back_call w.after c.args.r (pass_of c.in-ok-token.token)).after) held ∙ sym (ap (λ w. w.after) all);
+      after = c.feed_held.ensures.after ∙ ap (λ w. (back_call w.after c.args.r (pass_of c.in_ok-token.token)).after) held ∙ sym (ap (λ w. w.after) all);
       buffer = c.feed_held.ensures.buffer ∙ ap (λ w. w.buffer) held ∙ sym (ap (λ w. w.buffer) all);
     }

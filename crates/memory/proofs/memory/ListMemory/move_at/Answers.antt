@@ -10,5 +10,5 @@ returns g c =
     record {
       answer = search rules;
       after = search rules;
-      bounded = fetched_works before _ (subst (Grows 0 1 before) (sym c.move-at.ensures.after) (move_at_grows before c.args.place));
+      bounded = fetched_works before _ (subst (Grows 0 1 before) (sym c.move_at.ensures.after) (move_at_grows before c.args.place));
     }

@@ -4,14 +4,14 @@ use Rattle.semispace.proofs.Scans.{scan_none, scan-over, scan_more}
 use Rattle.semispace.proofs.halves.Halves.scan.Goals as goal
 use Rattle.semispace.specs.View.{heap_of}
 
-pub returns-then-scan-over : goal.returns-then-scan-over
-returns-then-scan-over g c =
-    sym (scan-over (c.args.most - c.loop-turn.-turn) _ (sym c.scan-over.ensures ∙ c.if-scan-over.true)) ∙ c.loop-turn.invariant
+pub returns-then-scan_over : goal.returns-then-scan_over
+returns-then-scan_over g c =
+    sym (scan-over (c.args.most - c.loop-turn.-turn) _ (sym c.scan_over.ensures ∙ c.if-scan_over.true)) ∙ c.loop-turn.invariant
 
 pub loop-turn-preserved : goal.loop-turn-preserved
 loop-turn-preserved g c =
-    ap (scan (c.args.most - (c.loop-turn.-turn + 1))) c.scan-cell.ensures
-    ∙ sym (scan_more (c.args.most - c.loop-turn.-turn) (c.args.most - (c.loop-turn.-turn + 1)) _ (omega arith) (sym c.scan-over.ensures ∙ c.if-scan-over.false))
+    ap (scan (c.args.most - (c.loop-turn.-turn + 1))) c.scan_cell.ensures
+    ∙ sym (scan_more (c.args.most - c.loop-turn.-turn) (c.args.most - (c.loop-turn.-turn + 1)) _ (omega arith) (sym c.scan_over.ensures ∙ c.if-scan_over.false))
     ∙ c.loop-turn.invariant
 
 pub returns : goal.returns

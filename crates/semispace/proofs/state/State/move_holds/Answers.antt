@@ -8,7 +8,7 @@ loop-i-init g c = (going_none move_hold _ _, refl, refl, refl)
 
 pub loop-i-preserved : goal.loop-i-preserved
 loop-i-preserved g c = (
-  going_more move_hold _ _ c.loop-i.i _ _ _ None _ (omega (arith, c.args.self.now.roots.sized.1)) c.loop-i.invariant.0 c.move-hold.ensures.after c.move-hold.ensures.answer,
+  going_more move_hold _ _ c.loop-i.i _ _ _ None _ (omega (arith, c.args.self.now.roots.sized.1)) c.loop-i.invariant.0 c.move_hold.ensures.after c.move_hold.ensures.answer,
   c.loop-i.invariant.1,
   c.loop-i.invariant.2,
   c.loop-i.invariant.3,

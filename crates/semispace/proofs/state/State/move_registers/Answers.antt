@@ -8,7 +8,7 @@ loop-i-init g c = (going_none move _ _, refl, refl, refl)
 
 pub loop-i-preserved : goal.loop-i-preserved
 loop-i-preserved g c = (
-  going_more move _ _ c.loop-i.i _ _ _ 0 _ (omega (arith, c.args.self.now.roots.sized.0)) c.loop-i.invariant.0 c.move-word.ensures.after c.move-word.ensures.answer,
+  going_more move _ _ c.loop-i.i _ _ _ 0 _ (omega (arith, c.args.self.now.roots.sized.0)) c.loop-i.invariant.0 c.move_word.ensures.after c.move_word.ensures.answer,
   c.loop-i.invariant.1,
   c.loop-i.invariant.2,
   c.loop-i.invariant.3,

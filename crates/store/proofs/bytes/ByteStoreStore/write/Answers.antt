@@ -4,8 +4,8 @@ use Rattle.store.proofs.FourBytes.{length-byte_words, set-byte_words}
 use Rattle.store.proofs.bytes.ByteStoreStore.write.Goals as goal
 use Rattle.std.proofs.Common.{rules}
 
-pub returns-in-err-inside : goal.returns-in-err-inside
-returns-in-err-inside c = search (rules, set_past)
+pub returns-in_err-inside : goal.returns-in_err-inside
+returns-in_err-inside c = search (rules, set_past)
 
 pub put-requires : goal.put-requires
 put-requires c = search (rules, length-byte_words)
