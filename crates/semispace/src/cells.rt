@@ -46,7 +46,7 @@ pub fn place_of(side: Side, word: u32) -> usize
 }
 
 pub(crate) fn word_at<S: Store>(store: &S, place: usize) -> u32
-    ensures { result ≡ slice_index (words store.now) place }
+    ensures { result ≡ slice_index (S.words store.now) place }
 {
     match store.read(place) {
         Ok(word) => word,
@@ -55,7 +55,7 @@ pub(crate) fn word_at<S: Store>(store: &S, place: usize) -> u32
 }
 
 pub fn put_word<S: Store>(store: &mut S, place: usize, word: u32)
-    ensures { words store.new ≡ slice_set (words store.old) place word }
+    ensures { S.words store.new ≡ slice_set (S.words store.old) place word }
 {
     let _ = store.write(place, word);
 }
@@ -63,14 +63,14 @@ pub fn put_word<S: Store>(store: &mut S, place: usize, word: u32)
 // A cell's two words travel as a pair.
 pub(crate) fn cell_at<S: Store>(store: &S, cell: usize) -> (u32, u32)
     requires { cell ≤ 2147483648 }
-    ensures { result ≡ cell_at (words store.now) cell }
+    ensures { result ≡ cell_at (S.words store.now) cell }
 {
     (word_at(store, 2 * cell), word_at(store, 2 * cell + 1))
 }
 
 pub(crate) fn put_cell<S: Store>(store: &mut S, cell: usize, pair: (u32, u32))
     requires { cell ≤ 2147483648 }
-    ensures { words store.new ≡ put_cell (words store.old) cell pair }
+    ensures { S.words store.new ≡ put_cell (S.words store.old) cell pair }
 {
     put_word(store, 2 * cell, pair.0);
     put_word(store, 2 * cell + 1, pair.1);

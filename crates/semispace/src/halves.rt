@@ -35,8 +35,8 @@ impl Halves {
     // An old cell's pair goes to the next free cell, and its old head refers there from now on.
     fn copy_cell<S: Store>(&mut self, store: &mut S, old: usize) -> u32
         requires { old < 2147483648 }
-        ensures answer { result ≡ (copy_cell (heap_of (words store.old) self.old) old).value }
-        ensures after { heap_of (words store.new) self.new ≡ (copy_cell (heap_of (words store.old) self.old) old).after }
+        ensures answer { result ≡ (copy_cell (heap_of (S.words store.old) self.old) old).value }
+        ensures after { heap_of (S.words store.new) self.new ≡ (copy_cell (heap_of (S.words store.old) self.old) old).after }
     {
         let cell = self.here() + self.marks.copied;
         let pair = cell_at(store, old);
@@ -48,8 +48,8 @@ impl Halves {
 
     // The cell that an old reference leads to: where it was forwarded, or where it is copied now.
     fn follow<S: Store>(&mut self, store: &mut S, word: u32) -> u32
-        ensures answer { result ≡ (follow (heap_of (words store.old) self.old) word).value }
-        ensures after { heap_of (words store.new) self.new ≡ (follow (heap_of (words store.old) self.old) word).after }
+        ensures answer { result ≡ (follow (heap_of (S.words store.old) self.old) word).value }
+        ensures after { heap_of (S.words store.new) self.new ≡ (follow (heap_of (S.words store.old) self.old) word).after }
     {
         let old = cell_of(word);
         let head = word_at(store, 2 * old);
@@ -63,8 +63,8 @@ impl Halves {
     }
 
     fn move_by_cases<S: Store>(&mut self, store: &mut S, word: u32) -> u32
-        ensures answer { result ≡ (move_cases (heap_of (words store.old) self.old) word).value }
-        ensures after { heap_of (words store.new) self.new ≡ (move_cases (heap_of (words store.old) self.old) word).after }
+        ensures answer { result ≡ (move_cases (heap_of (S.words store.old) self.old) word).value }
+        ensures after { heap_of (S.words store.new) self.new ≡ (move_cases (heap_of (S.words store.old) self.old) word).after }
     {
         if refers_into(self.there(), self.marks.size, word) {
             self.follow(store, word)
@@ -75,16 +75,16 @@ impl Halves {
 
     // A word that does not refer into the other half; after it, what the word referred to lies in the current one.
     pub(crate) fn move_word<S: Store>(&mut self, store: &mut S, word: u32) -> u32
-        ensures answer { result ≡ (move (heap_of (words store.old) self.old) word).value }
-        ensures after { heap_of (words store.new) self.new ≡ (move (heap_of (words store.old) self.old) word).after }
+        ensures answer { result ≡ (move (heap_of (S.words store.old) self.old) word).value }
+        ensures after { heap_of (S.words store.new) self.new ≡ (move (heap_of (S.words store.old) self.old) word).after }
     {
         self.move_by_cases(store, word)
     }
 
     // A taken hold's word is moved, a free hold stays free.
     pub(crate) fn move_hold<S: Store>(&mut self, store: &mut S, hold: Option<u32>) -> Option<u32>
-        ensures answer { result ≡ (move_hold (heap_of (words store.old) self.old) hold).value }
-        ensures after { heap_of (words store.new) self.new ≡ (move_hold (heap_of (words store.old) self.old) hold).after }
+        ensures answer { result ≡ (move_hold (heap_of (S.words store.old) self.old) hold).value }
+        ensures after { heap_of (S.words store.new) self.new ≡ (move_hold (heap_of (S.words store.old) self.old) hold).after }
     {
         match hold {
             Some(word) => Some(self.move_word(store, word)),
@@ -94,8 +94,8 @@ impl Halves {
 
     // Moves the word at a place, and writes it back there.
     pub fn move_at<S: Store>(&mut self, store: &mut S, place: usize) -> u32
-        ensures answer { result ≡ (move_at (heap_of (words store.old) self.old) place).value }
-        ensures after { heap_of (words store.new) self.new ≡ (move_at (heap_of (words store.old) self.old) place).after }
+        ensures answer { result ≡ (move_at (heap_of (S.words store.old) self.old) place).value }
+        ensures after { heap_of (S.words store.new) self.new ≡ (move_at (heap_of (S.words store.old) self.old) place).after }
     {
         let word = word_at(store, place);
         let moved = self.move_word(store, word);
@@ -105,7 +105,7 @@ impl Halves {
 
     // Moves the head, then the tail of the first cell not yet scanned.
     fn scan_cell<S: Store>(&mut self, store: &mut S)
-        ensures { heap_of (words store.new) self.new ≡ scan_cell (heap_of (words store.old) self.old) }
+        ensures { heap_of (S.words store.new) self.new ≡ scan_cell (heap_of (S.words store.old) self.old) }
     {
         let cell = self.here() + self.marks.scanned;
         self.move_at(store, 2 * cell);
@@ -115,7 +115,7 @@ impl Halves {
 
     // Scans at most so many cells.
     pub(crate) fn scan<S: Store>(&mut self, store: &mut S, most: usize)
-        ensures { heap_of (words store.new) self.new ≡ scan most (heap_of (words store.old) self.old) }
+        ensures { heap_of (S.words store.new) self.new ≡ scan most (heap_of (S.words store.old) self.old) }
     {
         for _turn in 0..most {
             if self.marks.scan_over() {

@@ -28,7 +28,7 @@ impl State {
     }
 
     fn move_registers<S: Store>(&mut self, store: &mut S)
-        ensures { machine_of (words store.new) self.new ≡ move_registers (machine_of (words store.old) self.old) }
+        ensures { machine_of (S.words store.new) self.new ≡ move_registers (machine_of (S.words store.old) self.old) }
     {
         let registers = self.roots.registers;
         for (i, word) in registers.iter().enumerate() {
@@ -37,7 +37,7 @@ impl State {
     }
 
     fn move_holds<S: Store>(&mut self, store: &mut S)
-        ensures { machine_of (words store.new) self.new ≡ move_holds (machine_of (words store.old) self.old) }
+        ensures { machine_of (S.words store.new) self.new ≡ move_holds (machine_of (S.words store.old) self.old) }
     {
         let holds = self.roots.holds;
         for (i, hold) in holds.iter().enumerate() {
@@ -47,7 +47,7 @@ impl State {
 
     // The halves trade places, and every root is moved.
     fn flip<S: Store>(&mut self, store: &mut S)
-        ensures { machine_of (words store.new) self.new ≡ flip (machine_of (words store.old) self.old) }
+        ensures { machine_of (S.words store.new) self.new ≡ flip (machine_of (S.words store.old) self.old) }
     {
         self.halves.trade();
         self.move_registers(store);
@@ -55,7 +55,7 @@ impl State {
     }
 
     fn flip_if_due<S: Store>(&mut self, store: &mut S)
-        ensures { machine_of (words store.new) self.new ≡ flip_if_due (machine_of (words store.old) self.old) }
+        ensures { machine_of (S.words store.new) self.new ≡ flip_if_due (machine_of (S.words store.old) self.old) }
     {
         if self.flip_due() {
             self.flip(store);
@@ -64,7 +64,7 @@ impl State {
 
     // A flip if one is due, then a scan of at most `pace` cells.
     pub fn collect<S: Store>(&mut self, store: &mut S)
-        ensures { machine_of (words store.new) self.new ≡ collected (machine_of (words store.old) self.old) }
+        ensures { machine_of (S.words store.new) self.new ≡ collected (machine_of (S.words store.old) self.old) }
     {
         let pace = self.terms.pace;
         self.flip_if_due(store);
@@ -74,7 +74,7 @@ impl State {
     // A cell from the top with the two words, and the reference to it.
     pub fn allocate<S: Store>(&mut self, store: &mut S, pair: (u32, u32)) -> u32
         ensures answer { result ≡ refer (new_cell (machine_of [] self.old)) }
-        ensures after { machine_of (words store.new) self.new ≡ allocate (machine_of (words store.old) self.old) pair }
+        ensures after { machine_of (S.words store.new) self.new ≡ allocate (machine_of (S.words store.old) self.old) pair }
     {
         self.halves.marks = self.halves.marks.allocated_one();
         let cell = self.halves.here() + self.halves.marks.top;

@@ -57,9 +57,9 @@ impl State {
         limit: usize,
         number: u32,
     ) -> Result<(), MemoryFault>
-        ensures answer { result ≡ (open_call (machine_of (words store.now) self.old) pace limit number).answer }
-        ensures after { machine_of (words store.now) self.new ≡ (open_call (machine_of (words store.now) self.old) pace limit number).after }
-        ensures bounded { NoWork (machine_of (words store.now) self.old) (machine_of (words store.now) self.new) }
+        ensures answer { result ≡ (open_call (machine_of (S.words store.now) self.old) pace limit number).answer }
+        ensures after { machine_of (S.words store.now) self.new ≡ (open_call (machine_of (S.words store.now) self.old) pace limit number).after }
+        ensures bounded { NoWork (machine_of (S.words store.now) self.old) (machine_of (S.words store.now) self.new) }
     {
         if self.opened {
             return Err(MemoryFault::AlreadyOpen);

@@ -6,13 +6,13 @@ use Rattle.semispace.specs.View.{heap_of}
 
 pub returns-then-scan_over : goal.returns-then-scan_over
 returns-then-scan_over g c =
-    sym (scan-over (c.args.most - c.loop-turn.-turn) _ (sym c.scan_over.ensures ∙ c.if-scan_over.true)) ∙ c.loop-turn.invariant
+    sym (scan-over (c.args.most - c.loop-turn._turn) _ (sym c.scan_over.ensures ∙ c.if-scan_over.true)) ∙ c.loop-turn.invariant
 
 pub loop-turn-preserved : goal.loop-turn-preserved
 loop-turn-preserved g c =
-    ap (scan (c.args.most - (c.loop-turn.-turn + 1))) c.scan_cell.ensures
-    ∙ sym (scan_more (c.args.most - c.loop-turn.-turn) (c.args.most - (c.loop-turn.-turn + 1)) _ (omega arith) (sym c.scan_over.ensures ∙ c.if-scan_over.false))
+    ap (scan (c.args.most - (c.loop-turn._turn + 1))) c.scan_cell.ensures
+    ∙ sym (scan_more (c.args.most - c.loop-turn._turn) (c.args.most - (c.loop-turn._turn + 1)) _ (omega arith) (sym c.scan_over.ensures ∙ c.if-scan_over.false))
     ∙ c.loop-turn.invariant
 
 pub returns : goal.returns
-returns g c = sym (scan_none (c.args.most - c.loop-turn.-turn) _ (omega arith)) ∙ c.loop-turn.invariant
+returns g c = sym (scan_none (c.args.most - c.loop-turn._turn) _ (omega arith)) ∙ c.loop-turn.invariant
