@@ -42,8 +42,8 @@ fn take<S: Store, A: Atom>(
     r: usize,
     p: usize,
 ) -> Result<Token, Stopped>
-    ensures answer { taken result ≡ (taking (machine words memory.old) r p).answer }
-    ensures after { machine words memory.new ≡ (taking (machine words memory.old) r p).after }
+    ensures answer { taken result ≡ (taking (machine S.words memory.old) r p).answer }
+    ensures after { machine S.words memory.new ≡ (taking (machine S.words memory.old) r p).after }
 {
     Ok(memory.hold(r, p)?)
 }
@@ -53,8 +53,8 @@ fn give<S: Store, A: Atom>(
     d: usize,
     token: Token,
 ) -> Result<(), Stopped>
-    ensures answer { given result ≡ (giving (machine words memory.old) d (pass_of token)).answer }
-    ensures after { machine words memory.new ≡ (giving (machine words memory.old) d (pass_of token)).after }
+    ensures answer { given result ≡ (giving (machine S.words memory.old) d (pass_of token)).answer }
+    ensures after { machine S.words memory.new ≡ (giving (machine S.words memory.old) d (pass_of token)).after }
 {
     Ok(memory.back(d, token)?)
 }
@@ -67,8 +67,8 @@ pub fn hold_twice<S: Store, A: Atom>(
     d: usize,
     e: usize,
 ) -> Result<(), Stopped>
-    ensures answer { given result ≡ (twice (machine words memory.old) r p d e).answer }
-    ensures after { machine words memory.new ≡ (twice (machine words memory.old) r p d e).after }
+    ensures answer { given result ≡ (twice (machine S.words memory.old) r p d e).answer }
+    ensures after { machine S.words memory.new ≡ (twice (machine S.words memory.old) r p d e).after }
 {
     let mut first = Some(take(memory, r, p)?);
     give(memory, d, first.take().unwrap())?;

@@ -16,9 +16,9 @@ pub fn set_aside<S: Store, A: Atom>(
     r: usize,
     p: usize,
 ) -> Result<Option<Token>, MemoryFault>
-    ensures answer { passed_up result ≡ (aside_call meant (machine words memory.old) r p).answer }
+    ensures answer { passed_up result ≡ (aside_call A.meant (machine S.words memory.old) r p).answer }
     ensures unspent { UnspentUp result }
-    ensures after { machine words memory.new ≡ (aside_call meant (machine words memory.old) r p).after }
+    ensures after { machine S.words memory.new ≡ (aside_call A.meant (machine S.words memory.old) r p).after }
 {
     match memory.look(r)? {
         Sight::Cell => {

@@ -40,7 +40,7 @@ pub struct ListMemory<S: Store, A: Atom> {
 impl<S: Store, A: Atom> ListMemory<S, A> {
     // A memory over a store, shut.
     pub fn new(store: S) -> Self
-        ensures { machine words result ≡ shut_machine (words store) }
+        ensures { machine S.words result ≡ shut_machine (S.words store) }
     {
         ListMemory {
             store,
@@ -51,7 +51,7 @@ impl<S: Store, A: Atom> ListMemory<S, A> {
 
     // The store, as the memory leaves it.
     pub fn finish(self) -> S
-        ensures { words result ≡ (machine words self).heap.words }
+        ensures { S.words result ≡ (machine S.words self).heap.words }
     {
         let ListMemory {
             store,
@@ -62,26 +62,26 @@ impl<S: Store, A: Atom> ListMemory<S, A> {
     }
 
     fn begin(&mut self, pace: usize, limit: usize, number: u32) -> Result<(), MemoryFault>
-        ensures answer { result ≡ (open_call (machine words self.old) pace limit number).answer }
-        ensures after { machine words self.new ≡ (open_call (machine words self.old) pace limit number).after }
-        ensures bounded { NoWork (machine words self.old) (machine words self.new) }
+        ensures answer { result ≡ (open_call (machine S.words self.old) pace limit number).answer }
+        ensures after { machine S.words self.new ≡ (open_call (machine S.words self.old) pace limit number).after }
+        ensures bounded { NoWork (machine S.words self.old) (machine S.words self.new) }
     {
         self.state.open(&self.store, pace, limit, number)
     }
 
     // Once it is granted, the memory answers as the ledger does, whatever is called from then on.
     pub fn open(&mut self, pace: usize, limit: usize, number: u32) -> Result<(), MemoryFault>
-        ensures answer { result ≡ (open_call (machine words self.old) pace limit number).answer }
-        ensures after { machine words self.new ≡ (open_call (machine words self.old) pace limit number).after }
-        ensures bounded { NoWork (machine words self.old) (machine words self.new) }
-        ensures law { result ≡ Ok tt → (orders : List (Order A)) → LedgerLaw coded meant (machine words self.new) orders }
+        ensures answer { result ≡ (open_call (machine S.words self.old) pace limit number).answer }
+        ensures after { machine S.words self.new ≡ (open_call (machine S.words self.old) pace limit number).after }
+        ensures bounded { NoWork (machine S.words self.old) (machine S.words self.new) }
+        ensures law { result ≡ Ok tt → (orders : List (Order A)) → LedgerLaw A.coded A.meant (machine S.words self.new) orders }
     {
         self.begin(pace, limit, number)
     }
 
     // Whether the memory is open and has all these registers.
     fn admit(&self, registers: &[usize]) -> Result<(), MemoryFault>
-        ensures { result ≡ admitted (machine words self.now) registers.now }
+        ensures { result ≡ admitted (machine S.words self.now) registers.now }
     {
         if !self.state.opened {
             return Err(MemoryFault::Shut);

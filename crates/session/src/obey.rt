@@ -27,8 +27,8 @@ pub fn obey<S: Store>(
     memory: &mut ListMemory<S, AxisWord>,
     command: Command,
 ) -> Result<Answer, MemoryFault>
-    ensures answer { result ≡ (obeyed (machine words memory.old) command).answer }
-    ensures after { machine words memory.new ≡ (obeyed (machine words memory.old) command).after }
+    ensures answer { result ≡ (obeyed (machine S.words memory.old) command).answer }
+    ensures after { machine S.words memory.new ≡ (obeyed (machine S.words memory.old) command).after }
 {
     match command {
         Command::Open(pace, limit) => done(memory.open(pace, limit, NUMBER)),
@@ -50,8 +50,8 @@ pub fn respond<S: Store>(
     memory: &mut ListMemory<S, AxisWord>,
     line: &[u8],
 ) -> Result<Answer, ConsoleFault>
-    ensures answer { result ≡ (reaction (machine words memory.old) line.now).answer }
-    ensures after { machine words memory.new ≡ (reaction (machine words memory.old) line.now).after }
+    ensures answer { result ≡ (reaction (machine S.words memory.old) line.now).answer }
+    ensures after { machine S.words memory.new ≡ (reaction (machine S.words memory.old) line.now).after }
 {
     match parse(line) {
         Ok(command) => Ok(obey(memory, command)?),

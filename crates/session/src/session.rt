@@ -18,8 +18,8 @@ pub fn session<S: Store>(
     memory: &mut ListMemory<S, AxisWord>,
     text: &[u8],
 ) -> Result<String, AllocError>
-    ensures answer { IfOk result (λ s. string_bytes s ≡ transcript 1 (machine words memory.old) (lines_of text.now)) }
-    ensures after { OnOk result (machine words memory.new ≡ machine_after (machine words memory.old) (lines_of text.now)) }
+    ensures answer { IfOk result (λ s. string_bytes s ≡ transcript 1 (machine S.words memory.old) (lines_of text.now)) }
+    ensures after { OnOk result (machine S.words memory.new ≡ machine_after (machine S.words memory.old) (lines_of text.now)) }
 {
     let mut out = String::new(heap);
     let mut from = 0;

@@ -18,8 +18,8 @@ impl<S: Store, A: Atom> ListMemory<S, A> {
     // The next atom of the list in r, or none at its end. A refusal names how many went before.
     fn next(&mut self, r: usize, n: usize) -> Result<Option<A>, MemoryFault>
         requires { r < 16 }
-        ensures answer { result ≡ (next_call meant (machine words self.old) r n).answer }
-        ensures after { machine words self.new ≡ (next_call meant (machine words self.old) r n).after }
+        ensures answer { result ≡ (next_call A.meant (machine S.words self.old) r n).answer }
+        ensures after { machine S.words self.new ≡ (next_call A.meant (machine S.words self.old) r n).after }
     {
         let word = self.state.roots.registers[r];
         if word == 0 {
@@ -41,10 +41,10 @@ impl<S: Store, A: Atom> ListMemory<S, A> {
     // Fills the buffer until the list in r ends or the buffer is full.
     fn walk(&mut self, r: usize, buffer: &mut [A]) -> Result<(usize, bool), MemoryFault>
         requires { r < 16 }
-        ensures answer { result ≡ (walk meant r (length buffer.old) 0 (machine words self.old) buffer.old).answer }
-        ensures after { machine words self.new ≡ (walk meant r (length buffer.old) 0 (machine words self.old) buffer.old).after }
-        ensures buffer { buffer.new ≡ (walk meant r (length buffer.old) 0 (machine words self.old) buffer.old).buffer }
-        ensures holds { SameHolds (machine words self.old) (machine words self.new) }
+        ensures answer { result ≡ (walk A.meant r (length buffer.old) 0 (machine S.words self.old) buffer.old).answer }
+        ensures after { machine S.words self.new ≡ (walk A.meant r (length buffer.old) 0 (machine S.words self.old) buffer.old).after }
+        ensures buffer { buffer.new ≡ (walk A.meant r (length buffer.old) 0 (machine S.words self.old) buffer.old).buffer }
+        ensures holds { SameHolds (machine S.words self.old) (machine S.words self.new) }
     {
         for n in 0..buffer.len() {
             match self.next(r, n)? {
@@ -57,8 +57,8 @@ impl<S: Store, A: Atom> ListMemory<S, A> {
 
     // Gives back to r what was held: a back that is not refused.
     fn restore(&mut self, r: usize, token: Token)
-        requires { (r < 16) × (Held (machine words self.old) token) }
-        ensures { machine words self.new ≡ (back_call (machine words self.old) r (pass_of token)).after }
+        requires { (r < 16) × (Held (machine S.words self.old) token) }
+        ensures { machine S.words self.new ≡ (back_call (machine S.words self.old) r (pass_of token)).after }
     {
         match self.back(r, token) {
             Ok(()) => (),
@@ -73,10 +73,10 @@ impl<S: Store, A: Atom> ListMemory<S, A> {
         token: Token,
         buffer: &mut [A],
     ) -> Result<(usize, bool), MemoryFault>
-        requires { (r < 16) × (Held (machine words self.old) token) }
-        ensures answer { result ≡ (walk meant r (length buffer.old) 0 (machine words self.old) buffer.old).answer }
-        ensures after { machine words self.new ≡ (back_call (walk meant r (length buffer.old) 0 (machine words self.old) buffer.old).after r (pass_of token)).after }
-        ensures buffer { buffer.new ≡ (walk meant r (length buffer.old) 0 (machine words self.old) buffer.old).buffer }
+        requires { (r < 16) × (Held (machine S.words self.old) token) }
+        ensures answer { result ≡ (walk A.meant r (length buffer.old) 0 (machine S.words self.old) buffer.old).answer }
+        ensures after { machine S.words self.new ≡ (back_call (walk A.meant r (length buffer.old) 0 (machine S.words self.old) buffer.old).after r (pass_of token)).after }
+        ensures buffer { buffer.new ≡ (walk A.meant r (length buffer.old) 0 (machine S.words self.old) buffer.old).buffer }
     {
         let answer = self.walk(r, buffer);
         self.restore(r, token);
@@ -90,9 +90,9 @@ impl<S: Store, A: Atom> ListMemory<S, A> {
         p: usize,
         buffer: &mut [A],
     ) -> Result<(usize, bool), MemoryFault>
-        ensures answer { result ≡ (feed_call meant (machine words self.old) r p buffer.old).answer }
-        ensures after { machine words self.new ≡ (feed_call meant (machine words self.old) r p buffer.old).after }
-        ensures buffer { buffer.new ≡ (feed_call meant (machine words self.old) r p buffer.old).buffer }
+        ensures answer { result ≡ (feed_call A.meant (machine S.words self.old) r p buffer.old).answer }
+        ensures after { machine S.words self.new ≡ (feed_call A.meant (machine S.words self.old) r p buffer.old).after }
+        ensures buffer { buffer.new ≡ (feed_call A.meant (machine S.words self.old) r p buffer.old).buffer }
     {
         let token = self.hold(r, p)?;
         self.feed_held(r, token, buffer)

@@ -14,7 +14,7 @@ use store::words::Store;
 impl<S: Store, A: Atom> ListMemory<S, A> {
     // Whether a place is there and free.
     fn check_hold(&self, p: usize) -> Result<(), MemoryFault>
-        ensures { result ≡ may_hold (machine words self.now) p }
+        ensures { result ≡ may_hold (machine S.words self.now) p }
     {
         if p >= 8 {
             return Err(MemoryFault::NoHold(p));
@@ -26,10 +26,10 @@ impl<S: Store, A: Atom> ListMemory<S, A> {
     }
 
     pub fn hold(&mut self, r: usize, p: usize) -> Result<Token, MemoryFault>
-        ensures answer { passed result ≡ (hold_call (machine words self.old) r p).answer }
+        ensures answer { passed result ≡ (hold_call (machine S.words self.old) r p).answer }
         ensures unspent { Unspent result }
-        ensures after { machine words self.new ≡ (hold_call (machine words self.old) r p).after }
-        ensures bounded { NoWork (machine words self.old) (machine words self.new) }
+        ensures after { machine S.words self.new ≡ (hold_call (machine S.words self.old) r p).after }
+        ensures bounded { NoWork (machine S.words self.old) (machine S.words self.new) }
     {
         self.admit(&[r])?;
         self.check_hold(p)?;
@@ -39,7 +39,7 @@ impl<S: Store, A: Atom> ListMemory<S, A> {
 
     // The word that a token's place is taken with, unless the token is another memory's.
     fn held(&self, token: &Token) -> Option<u32>
-        ensures { result ≡ held_for (machine words self.now) (pass_of token.now) }
+        ensures { result ≡ held_for (machine S.words self.now) (pass_of token.now) }
     {
         if token.number() != self.state.terms.number {
             return None;
@@ -48,9 +48,9 @@ impl<S: Store, A: Atom> ListMemory<S, A> {
     }
 
     pub fn back(&mut self, d: usize, token: Token) -> Result<(), Kept>
-        ensures answer { result ≡ kept token (back_call (machine words self.old) d (pass_of token)).answer }
-        ensures after { machine words self.new ≡ (back_call (machine words self.old) d (pass_of token)).after }
-        ensures bounded { NoWork (machine words self.old) (machine words self.new) }
+        ensures answer { result ≡ kept token (back_call (machine S.words self.old) d (pass_of token)).answer }
+        ensures after { machine S.words self.new ≡ (back_call (machine S.words self.old) d (pass_of token)).after }
+        ensures bounded { NoWork (machine S.words self.old) (machine S.words self.new) }
     {
         if let Err(fault) = self.admit(&[d]) {
             return Err(Kept { fault, token });

@@ -14,7 +14,7 @@ use store::words::Store;
 
 // What a word shows.
 fn sight<A: Atom>(word: u32) -> Sight<A>
-    ensures { result ≡ sight_of meant word }
+    ensures { result ≡ sight_of A.meant word }
 {
     if word == 0 {
         return Sight::Nil;
@@ -30,9 +30,9 @@ fn sight<A: Atom>(word: u32) -> Sight<A>
 
 impl<S: Store, A: Atom> ListMemory<S, A> {
     pub fn set(&mut self, d: usize, atom: A) -> Result<(), MemoryFault>
-        ensures answer { result ≡ (set_call (machine words self.old) d (coded atom)).answer }
-        ensures after { machine words self.new ≡ (set_call (machine words self.old) d (coded atom)).after }
-        ensures bounded { NoWork (machine words self.old) (machine words self.new) }
+        ensures answer { result ≡ (set_call (machine S.words self.old) d (A.coded atom)).answer }
+        ensures after { machine S.words self.new ≡ (set_call (machine S.words self.old) d (A.coded atom)).after }
+        ensures bounded { NoWork (machine S.words self.old) (machine S.words self.new) }
     {
         self.admit(&[d])?;
         self.state.roots.registers[d] = atom.code()?;
@@ -40,9 +40,9 @@ impl<S: Store, A: Atom> ListMemory<S, A> {
     }
 
     pub fn load(&mut self, d: usize, r: usize) -> Result<(), MemoryFault>
-        ensures answer { result ≡ (load_call (machine words self.old) d r).answer }
-        ensures after { machine words self.new ≡ (load_call (machine words self.old) d r).after }
-        ensures bounded { NoWork (machine words self.old) (machine words self.new) }
+        ensures answer { result ≡ (load_call (machine S.words self.old) d r).answer }
+        ensures after { machine S.words self.new ≡ (load_call (machine S.words self.old) d r).after }
+        ensures bounded { NoWork (machine S.words self.old) (machine S.words self.new) }
     {
         self.admit(&[d, r])?;
         self.state.roots.registers[d] = self.state.roots.registers[r];
@@ -50,9 +50,9 @@ impl<S: Store, A: Atom> ListMemory<S, A> {
     }
 
     pub fn clear(&mut self, d: usize) -> Result<(), MemoryFault>
-        ensures answer { result ≡ (clear_call (machine words self.old) d).answer }
-        ensures after { machine words self.new ≡ (clear_call (machine words self.old) d).after }
-        ensures bounded { NoWork (machine words self.old) (machine words self.new) }
+        ensures answer { result ≡ (clear_call (machine S.words self.old) d).answer }
+        ensures after { machine S.words self.new ≡ (clear_call (machine S.words self.old) d).after }
+        ensures bounded { NoWork (machine S.words self.old) (machine S.words self.new) }
     {
         self.admit(&[d])?;
         self.state.roots.registers[d] = 0;
@@ -60,14 +60,14 @@ impl<S: Store, A: Atom> ListMemory<S, A> {
     }
 
     pub fn look(&self, r: usize) -> Result<Sight<A>, MemoryFault>
-        ensures { result ≡ (look_call meant (machine words self.now) r).answer }
+        ensures { result ≡ (look_call A.meant (machine S.words self.now) r).answer }
     {
         self.admit(&[r])?;
         Ok(sight(self.state.roots.registers[r]))
     }
 
     pub fn same(&self, a: usize, b: usize) -> Result<bool, MemoryFault>
-        ensures { result ≡ (same_call (machine words self.now) a b).answer }
+        ensures { result ≡ (same_call (machine S.words self.now) a b).answer }
     {
         self.admit(&[a, b])?;
         Ok(self.state.roots.registers[a] == self.state.roots.registers[b])
