@@ -2,7 +2,7 @@
 use machine::faults::MemoryFault;
 use std::io;
 
-#[derive(Drop)]
+#[derive(Debug, Drop)]
 pub enum Stop {
     Memory(MemoryFault),
     Output(io::Error),
