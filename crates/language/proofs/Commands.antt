@@ -2,7 +2,7 @@
 use Rattle.std.proofs.Common.{◌≡◌, ℕ, ◌+◌, ◌*◌, ◌≤◌, cond, ltb, List, [], ◌∷◌, ◌++◌, length, Ok, codes, decimal, refl, ap, ◌∙◌, arith, length-append}
 use Rattle.atom.specs.Shown.{axis_text}
 use Rattle.atom.specs.declared.axis.AxisWord.{AxisWord}
-use Rattle.command.specs.Commands.{command_of, made, operands, parsed}
+use Rattle.command.specs.Commands.{command_of, made, parsed}
 use Rattle.command.specs.Operands.{as_number, as_atom, take, and_then, alone, understood, one_of, two_of, three_of, setting_of}
 use Rattle.command.specs.declared.command.Command.TheVariants.{Open, Set, Cons, Car, Cdr, Rplaca, Rplacd, Load, Clear, Look, Same}
 use Rattle.command.specs.declared.command.Command.{Command}

@@ -1,9 +1,9 @@
 -- Writing a used cell, allocating one, and counting one as scanned keep the invariant.
-use Rattle.std.proofs.Common.{◌≡◌, ℕ, ◌+◌, ◌-◌, ◌<◌, ◌≤◌, ◌≢◌, ◌⊎◌, Option, sym, refl, ap, ◌∙◌, inl, inr, arith}
+use Rattle.std.proofs.Common.{◌≡◌, ℕ, ◌+◌, ◌<◌, ◌≤◌, ◌≢◌, Option, sym, refl, ap, ◌∙◌, inl, inr, arith}
 use Rattle.ledger.proofs.Copy.{put_same, put_other}
 use Rattle.ledger.proofs.Invariant.{Inv, Ordered}
-use Rattle.ledger.proofs.Seen.{Seen, here, View, Used, Clean, Never, Pair, Stands, stands_on, pair_on}
-use Rattle.ledger.specs.Ledger.{Row, Entry, cell, put}
+use Rattle.ledger.proofs.Seen.{here, View, Used, Clean, Never, Pair, Stands, stands_on, pair_on}
+use Rattle.ledger.specs.Ledger.{Row, Entry, put}
 use Rattle.machine.specs.Heap.{Marks}
 use Rattle.std.proofs.lemmas.Bool.{cases_eq}
 

@@ -1,15 +1,13 @@
 -- The collector's share of a cons keeps memory and ledger together.
-use Rattle.std.proofs.Common.{◌≡◌, ℕ, ◌+◌, ◌*◌, ◌<◌, ◌≤◌, Bool, true, false, cond, length, get_or, Some, None, Option, sym, refl, ap, ◌∙◌, arith}
+use Rattle.std.proofs.Common.{◌≡◌, ℕ, Bool, true, false, cond, get_or, Some, None, Option, refl, arith}
 use Rattle.ledger.proofs.Flip.{Agrees, flip_agrees}
 use Rattle.ledger.proofs.Roots.{WordStands, HoldStands}
 use Rattle.ledger.proofs.Scan.{Scanned, Swept, scan_all}
-use Rattle.ledger.proofs.Seen.{Used, Never, Stands, stands_on}
-use Rattle.ledger.proofs.Sound.{seen, Past, Sound}
+use Rattle.ledger.proofs.Seen.{Never, stands_on}
+use Rattle.ledger.proofs.Sound.{seen, Past}
 use Rattle.ledger.specs.Ledger.{Row, Ledger, Entry}
-use Rattle.machine.specs.Heap as heap
-use Rattle.machine.specs.Heap.{Heap, scan, scan_over}
-use Rattle.machine.specs.Machine.{Machine, flip, flip_due, flip_if_due, flip_line, collected, with_heap}
-use Rattle.std.proofs.lemmas.Bool.{eqb-true}
+use Rattle.machine.specs.Heap.{Heap, scan}
+use Rattle.machine.specs.Machine.{Machine, flip, flip_due, flip_if_due, collected, with_heap}
 use Rattle.std.proofs.lemmas.Bool.Decides.{nat_tests}
 
 seen_swept : (h h' : Heap) (w : ℕ) → Swept h h' → seen h' w ≡ seen h w

@@ -1,9 +1,9 @@
 -- Copying a waiting cell keeps the invariant.
-use Rattle.std.proofs.Common.{◌≡◌, ℕ, ◌+◌, ◌<◌, ◌≤◌, true, false, cond, eqb, ◌≢◌, ◌⊎◌, Option, sym, refl, ap, ◌∙◌, inl, inr, arith}
+use Rattle.std.proofs.Common.{◌≡◌, ℕ, ◌+◌, ◌<◌, ◌≤◌, ◌≢◌, Option, sym, refl, ap, ◌∙◌, inl, inr, arith}
 use Rattle.ledger.proofs.Invariant.{Inv, Ordered}
-use Rattle.ledger.proofs.Seen.{Seen, here, View, Used, Clean, Never, Pair, Stands, stands_on, pair_on}
-use Rattle.ledger.specs.Ledger.{Row, Entry, cell, put}
-use Rattle.machine.specs.Heap.{Marks, raise_copied}
+use Rattle.ledger.proofs.Seen.{here, View, Used, Clean, Never, Pair, pair_on}
+use Rattle.ledger.specs.Ledger.{Row, put}
+use Rattle.machine.specs.Heap.{Marks}
 use Rattle.std.proofs.lemmas.Bool.{cases_eq, eq-eqb, ne_eqb}
 
 pub put_same : {Y : Type 0} (f : ℕ → Y) (i : ℕ) (y : Y) → put f i y i ≡ y

@@ -1,5 +1,5 @@
 -- Feed answers as the ledger does, and leaves what it found.
-use Rattle.std.proofs.Common.{◌≡◌, ℕ, zero, suc, ◌+◌, ◌*◌, ◌<◌, ◌≤◌, Bool, true, false, cond, eqb, leb, List, [], ◌∷◌, length, get_or, set, Some, None, Ok, Err, Option, Result, sym, refl, ap, ◌∙◌, subst, inl, inr, arith}
+use Rattle.std.proofs.Common.{◌≡◌, ℕ, zero, suc, ◌+◌, ◌*◌, ◌<◌, Bool, true, false, cond, eqb, leb, List, [], ◌∷◌, length, get_or, set, Some, None, Ok, Err, Option, Result, sym, refl, ap, ◌∙◌, subst, inl, inr, arith}
 use Rattle.ledger.proofs.Copy.{put_same, put_other}
 use Rattle.ledger.proofs.Flip.{Agrees}
 use Rattle.ledger.proofs.Holding.{hold_agrees, may_same}
@@ -12,12 +12,12 @@ use Rattle.ledger.proofs.Turns.{known_one}
 use Rattle.ledger.specs.Answers.{may_hold_at, FeedSaid, fed_said, ends, at_cell, at_atom, walked, feed_unless_denied, feed_says}
 use Rattle.ledger.specs.Ledger as ledger
 use Rattle.ledger.specs.Ledger.{Ledger, Row, Entry, nil, atom, cell, put}
-use Rattle.machine.specs.Calls.{known, admitted, fetched}
+use Rattle.machine.specs.Calls.{known, fetched}
 use Rattle.machine.specs.Feed.{Fed, fed, head_moved, head_of, on_atom, walk, handed_back, feed_unless, feed_call}
 use Rattle.machine.specs.Heap as heap
 use Rattle.machine.specs.Heap.{Heap, move_at}
 use Rattle.machine.specs.Holds.{with_hold, hold_at, vacant, may_hold}
-use Rattle.machine.specs.Machine.{Machine, register, with_register, with_heap}
+use Rattle.machine.specs.Machine.{Machine, register}
 use Rattle.machine.specs.Words.{is_reference, cell_of, refer}
 use Rattle.machine.specs.declared.faults.MemoryFault.{MemoryFault}
 use Rattle.machine.specs.declared.faults.MemoryFault.TheVariants.{Shut, NotCell, NotAtom, NoHold}

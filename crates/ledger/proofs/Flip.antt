@@ -1,16 +1,14 @@
 -- A flip with the scan over keeps memory and ledger together.
-use Rattle.std.proofs.Common.{◌≡◌, ℕ, ◌+◌, ◌*◌, ◌<◌, ◌≤◌, Bool, true, false, cond, not, List, length, get_or, Some, None, Option, sym, refl, ap, ◌∙◌, arith}
-use Rattle.ledger.proofs.Invariant.{Inv, Ordered}
-use Rattle.ledger.proofs.Mend.{stands_weaker}
-use Rattle.ledger.proofs.Roots.{Went, WordStands, HoldStands, word_on, hold_on, word_root, hold_root, Roots, along_keeps, went_on}
-use Rattle.ledger.proofs.Seen.{Seen, Used, Never, Stands, stands_on}
+use Rattle.std.proofs.Common.{◌≡◌, ℕ, ◌<◌, ◌≤◌, Bool, true, false, cond, not, List, length, get_or, Some, None, Option, refl, ap, ◌∙◌, arith}
+use Rattle.ledger.proofs.Roots.{WordStands, HoldStands, word_on, hold_on, word_root, hold_root, Roots, along_keeps}
+use Rattle.ledger.proofs.Seen.{Never, stands_on}
 use Rattle.ledger.proofs.Sound.{view_of, seen, Past, Live, Sound, halves}
-use Rattle.ledger.proofs.Turn.{swap, LiveFrom, Turned, swap_stands, turn_keeps}
-use Rattle.ledger.proofs.Words.{see, see_swap}
-use Rattle.ledger.specs.Ledger.{Row, Ledger, Entry, cell, Reach, of_register, of_hold, of_head, of_tail}
+use Rattle.ledger.proofs.Turn.{swap, Turned, swap_stands, turn_keeps}
+use Rattle.ledger.proofs.Words.{see_swap}
+use Rattle.ledger.specs.Ledger.{Ledger, Entry, cell, Reach, of_register, of_hold, of_head, of_tail}
 use Rattle.machine.specs.Heap as heap
 use Rattle.machine.specs.Heap.{Heap, move, move_hold, along, trade, used}
-use Rattle.machine.specs.Machine.{Machine, flip, move_registers, with_heap}
+use Rattle.machine.specs.Machine.{Machine, flip}
 
 -- Machine and ledger agree: every register and every hold stands for what the ledger has there.
 -- Q is what was true of the ledger when the halves last traded places.

@@ -1,20 +1,20 @@
 -- Hold and back answer as the ledger does.
-use Rattle.std.proofs.Common.{◌≡◌, ℕ, ◌+◌, ◌*◌, ◌<◌, ◌≤◌, Bool, true, false, cond, eqb, ltb, List, [], ◌∷◌, length, get_or, set, Some, None, Ok, Err, Option, Result, sym, refl, ap, ◌∙◌, subst, inl, inr, arith}
+use Rattle.std.proofs.Common.{◌≡◌, ℕ, ◌<◌, Bool, true, false, cond, eqb, ltb, [], ◌∷◌, length, Some, None, Ok, Err, Option, Result, sym, refl, ◌∙◌, subst, inl, inr, arith}
 use Rattle.ledger.proofs.Copy.{put_same, put_other}
 use Rattle.ledger.proofs.Flip.{Agrees}
-use Rattle.ledger.proofs.Roots.{WordStands, HoldStands}
+use Rattle.ledger.proofs.Roots.{HoldStands}
 use Rattle.ledger.proofs.Seen.{Never}
 use Rattle.ledger.proofs.Sound.{Quiet, quiet_not}
 use Rattle.ledger.proofs.Steps.{register_agrees}
 use Rattle.ledger.proofs.Turns.{Matches, admit, refuse, known_one}
-use Rattle.ledger.specs.Answers.{Said, denied, unless_denied, vacant_for, may_hold_at, hold_says, BackSaid, kept_said, giving, held_with, back_unless_denied, back_says}
+use Rattle.ledger.specs.Answers.{Said, unless_denied, vacant_for, may_hold_at, hold_says, BackSaid, kept_said, giving, held_with, back_unless_denied, back_says}
 use Rattle.ledger.specs.Ledger as ledger
 use Rattle.ledger.specs.Ledger.{Ledger, Entry, put}
-use Rattle.machine.specs.Calls.{Call, unless, known, admitted}
-use Rattle.machine.specs.Holds.{Pass, KeptPass, with_hold, hold_at, vacant, may_hold, hold_call, BackCall, kept_back, given_back, held_for, back_unless, back_call}
-use Rattle.machine.specs.Machine.{Machine, register, with_register}
+use Rattle.machine.specs.Calls.{Call, unless, known}
+use Rattle.machine.specs.Holds.{Pass, with_hold, hold_at, vacant, may_hold, hold_call, BackCall, kept_back, given_back, held_for, back_unless, back_call}
+use Rattle.machine.specs.Machine.{Machine, register}
 use Rattle.machine.specs.declared.faults.MemoryFault.{MemoryFault}
-use Rattle.machine.specs.declared.faults.MemoryFault.TheVariants.{Shut, NoHold, HoldTaken, NotHeld}
+use Rattle.machine.specs.declared.faults.MemoryFault.TheVariants.{Shut, NoHold, NotHeld}
 use Rattle.std.proofs.lemmas.List.{get_or-set_same, get_or-set_other, length-set, get_or_past}
 use Rattle.std.proofs.lemmas.Bool.{cases_eq, cases_lt, lt-ltb, le-ltb}
 

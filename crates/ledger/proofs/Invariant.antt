@@ -1,8 +1,8 @@
 -- What holds of a view of the heap and the ledger's row, whatever was called so far.
 -- `own` and `old` give the ledger's cell for each used cell of the current half and for each live cell of the other:
 -- one that was used and in reach when the halves last traded places.
-use Rattle.std.proofs.Common.{◌≡◌, ℕ, ◌+◌, ◌<◌, ◌≤◌, Option}
-use Rattle.ledger.proofs.Seen.{Seen, here, View, Used, Clean, Never, Pair}
+use Rattle.std.proofs.Common.{◌≡◌, ℕ, ◌<◌, ◌≤◌, Option}
+use Rattle.ledger.proofs.Seen.{here, View, Used, Clean, Never, Pair}
 use Rattle.ledger.specs.Ledger.{Row}
 use Rattle.machine.specs.Heap.{Marks}
 

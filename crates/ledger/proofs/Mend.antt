@@ -1,10 +1,8 @@
 -- Moving a word of a used cell and writing it back; putting a clean word into a used cell.
-use Rattle.std.proofs.Common.{◌≡◌, ℕ, ◌+◌, ◌*◌, ◌<◌, ◌≤◌, ◌⊎◌, length, get_or, set, Option, sym, refl, ap, ◌∙◌, subst, arith}
+use Rattle.std.proofs.Common.{◌≡◌, ℕ, ◌+◌, ◌≤◌, ◌⊎◌, get_or, set, Option, refl, ◌∙◌, subst}
 use Rattle.ledger.proofs.Cells.{Wrote, Rewrote, write_keeps}
-use Rattle.ledger.proofs.Copy.{put_other}
-use Rattle.ledger.proofs.Invariant.{Inv, Ordered}
 use Rattle.ledger.proofs.Move.{move_keeps}
-use Rattle.ledger.proofs.Seen.{Seen, there, View, Used, Clean, Never, Pair, Stands, stands_on}
+use Rattle.ledger.proofs.Seen.{Seen, there, Used, Never, Pair, Stands, stands_on}
 use Rattle.ledger.proofs.Sides.{other, part, part_seen, of_pair, pair_of, put_part, put_other_part, put_part_wrote}
 use Rattle.ledger.proofs.Sound.{view_of, seen, Past, Live, Sound, halves, live_inside, Frame, Moved}
 use Rattle.ledger.specs.Ledger.{Row, Entry, entry}

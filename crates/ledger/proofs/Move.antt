@@ -1,18 +1,17 @@
 -- Moving a word keeps the heap sound, and the moved word stands for the same entry.
-use Rattle.std.proofs.Common.{◌≡◌, ℕ, ◌+◌, ◌-◌, ◌*◌, ◌<◌, ◌≤◌, Bool, true, false, cond, ltb, List, length, get_or, set, Option, sym, refl, ap, ◌∙◌, subst, inl, inr, arith}
-use Rattle.ledger.proofs.Copy.{OneMore, put_same, put_other, copy_keeps, grown}
-use Rattle.ledger.proofs.Invariant.{Inv, Ordered}
+use Rattle.std.proofs.Common.{◌≡◌, ℕ, ◌+◌, ◌*◌, ◌<◌, ◌≤◌, true, false, ltb, length, get_or, set, Option, sym, refl, ap, ◌∙◌, subst, inl, inr, arith}
+use Rattle.ledger.proofs.Copy.{OneMore, put_same, copy_keeps, grown}
 use Rattle.ledger.proofs.Room.{waiting_fewer, rank_counts}
-use Rattle.ledger.proofs.Seen.{Seen, none, code, here, there, stray, View, Used, Never, Stands, stands_on}
+use Rattle.ledger.proofs.Seen.{Seen, none, code, here, there, stray, Used, Never, Stands}
 use Rattle.ledger.proofs.Sound.{view_of, seen, Past, Live, Sound, halves, live_inside, Frame, Moved}
-use Rattle.ledger.proofs.Words.{see, view, Halves, see_here, from_here, from_there, old_refers, old_refers_not, refers, refers_not}
-use Rattle.ledger.proofs.Writes.{copy_words, copy_words_lem}
+use Rattle.ledger.proofs.Words.{see_here, from_there, old_refers, old_refers_not, refers, refers_not}
+use Rattle.ledger.proofs.Writes.{copy_words_lem}
 use Rattle.ledger.specs.Ledger.{Row, Entry, cell, put}
 use Rattle.machine.specs.Heap as heap
 use Rattle.machine.specs.Heap.{Heap, Step, Marks, move, used}
 use Rattle.machine.specs.Words.{refer, cell_of, refers_into, put_cell, cell_at}
 use Rattle.std.proofs.lemmas.List.{length-set}
-use Rattle.std.proofs.lemmas.Bool.{cond-true, cond-false, lt-ltb}
+use Rattle.std.proofs.lemmas.Bool.{lt-ltb}
 
 -- the heap after the old cell j was copied
 abbrev pub copied : Heap → ℕ → Heap

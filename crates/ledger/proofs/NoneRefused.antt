@@ -1,18 +1,16 @@
 -- Over a run: with at most `limit` cells in reach at every cons, none is refused for room.
-use Rattle.std.proofs.Common.{◌≡◌, ℕ, zero, suc, ◌+◌, ◌-◌, ◌*◌, ◌<◌, ◌≤◌, Bool, true, false, cond, ltb, List, [], ◌∷◌, Ok, Err, Option, Result, sym, refl, ap, ◌∙◌, subst, arith}
+use Rattle.std.proofs.Common.{◌≡◌, ℕ, ◌≤◌, Bool, true, false, cond, ltb, List, [], ◌∷◌, Ok, Err, Option, Result, sym, refl, ◌∙◌, subst, arith}
 use Rattle.atom.specs.declared.faults.KindFault.{KindFault}
-use Rattle.ledger.proofs.Flip.{Agrees}
-use Rattle.ledger.proofs.Paces.{progress, flip_held, Held}
-use Rattle.ledger.proofs.Plenty.{Fit, fit_quiet, Granted, Paced, lowered, collected_granted}
+use Rattle.ledger.proofs.Paces.{progress, flip_held}
+use Rattle.ledger.proofs.Plenty.{Fit, fit_quiet, Granted, Paced, collected_granted}
 use Rattle.ledger.proofs.Running.{Lawful, Beside, pages, quiets}
 use Rattle.ledger.proofs.Sound.{Quiet}
 use Rattle.ledger.specs.Answers.{Told, granted}
 use Rattle.ledger.specs.Law.{ConsCalled, EveryCons, AllGranted}
 use Rattle.ledger.specs.Ledger.{Ledger, Few}
 use Rattle.ledger.specs.Runs.{Order, cons, car, cdr, rplaca, rplacd, put, load, clear, look, same, hold, back, feed, told_by, told, turn, page, replies, tells}
-use Rattle.machine.specs.Calls.{Call, unless, known, allocated, cons_call, done}
-use Rattle.machine.specs.Heap.{Heap, Marks, scan, lower_top}
-use Rattle.machine.specs.Machine.{Machine, Terms, flip, flip_due, collected, with_heap, room, grant, ceiling}
+use Rattle.machine.specs.Calls.{Call, unless, known, allocated, cons_call}
+use Rattle.machine.specs.Machine.{Machine, Terms, flip, flip_due, collected, ceiling}
 use Rattle.machine.specs.declared.faults.MemoryFault.{MemoryFault}
 use Rattle.machine.specs.declared.faults.MemoryFault.TheVariants.{Shut, NoRegister}
 use Rattle.std.proofs.lemmas.Bool.{lt-ltb}

@@ -1,21 +1,19 @@
 -- A memory right after opening agrees with the blank ledger, and agreement shows in the roots.
-use Rattle.std.proofs.Common.{◌≡◌, ℕ, zero, suc, ◌+◌, ◌-◌, ◌*◌, ◌/◌, ◌<◌, ◌≤◌, Bool, true, false, cond, ltb, List, [], ◌∷◌, length, get_or, replicate, is_some, Some, None, Option, sym, refl, ap, ◌∙◌, inl, inr, arith}
+use Rattle.std.proofs.Common.{◌≡◌, ℕ, zero, suc, ◌*◌, ◌<◌, ◌≤◌, List, [], length, get_or, replicate, is_some, Some, None, Option, refl, inl, inr, arith}
 use Rattle.ledger.proofs.Flip.{Agrees}
 use Rattle.ledger.proofs.Roots.{WordStands, HoldStands}
 use Rattle.ledger.proofs.Running.{Beside}
 use Rattle.ledger.proofs.Same as equal
-use Rattle.ledger.proofs.Seen.{Seen, none, Used, Never}
-use Rattle.ledger.proofs.Sound.{Past, Live, Sound, view_of}
-use Rattle.ledger.proofs.Invariant.{Inv, Ordered}
+use Rattle.ledger.proofs.Seen.{Used, Never}
+use Rattle.ledger.proofs.Sound.{Past, Sound}
 use Rattle.ledger.proofs.Words.{see}
 use Rattle.ledger.specs.Law.{Root, register, hold, word_of, entry_of, SameRoots}
-use Rattle.ledger.specs.Ledger.{Ledger, Entry, nil, cell, Reach, of_register, of_hold, of_head, of_tail, Few}
+use Rattle.ledger.specs.Ledger.{Ledger, Entry, Reach, of_register, of_hold, of_head, of_tail, Few}
 use Rattle.ledger.specs.Runs.{blank}
-use Rattle.machine.specs.Heap.{Heap, Marks, empty_marks}
+use Rattle.machine.specs.Heap.{empty_marks}
 use Rattle.machine.specs.Holds.{hold_at}
 use Rattle.machine.specs.Machine as machine
 use Rattle.machine.specs.Machine.{Machine, Terms, fresh_machine}
-use Rattle.std.proofs.lemmas.List.{length-replicate}
 use Rattle.std.proofs.lemmas.Bool.{cases_lt, lt-ltb, le-ltb}
 
 get_or_same : {Y : Type 0} (n i : ℕ) (y : Y) → get_or (replicate n y) i y ≡ y

@@ -1,5 +1,5 @@
 -- How far a scan gets, and the marks that a flip leaves.
-use Rattle.std.proofs.Common.{◌≡◌, ℕ, zero, suc, ◌+◌, ◌-◌, ◌*◌, ◌<◌, ◌≤◌, Bool, true, false, cond, ltb, ◌⊎◌, List, [], ◌∷◌, Some, None, Option, sym, refl, ap, ◌∙◌, inl, inr, arith}
+use Rattle.std.proofs.Common.{◌≡◌, ℕ, zero, suc, ◌+◌, ◌<◌, ◌≤◌, Bool, true, false, cond, ltb, ◌⊎◌, List, [], ◌∷◌, Some, None, Option, refl, ap, ◌∙◌, inl, inr, arith}
 use Rattle.machine.specs.Heap as heap
 use Rattle.machine.specs.Heap.{Heap, Step, Marks, move, move_at, move_hold, along, scan, scan_cell, scan_over, trade, used}
 use Rattle.machine.specs.Machine.{Machine, flip, move_registers, with_heap}

@@ -1,11 +1,10 @@
 -- No call of a run looks past the store's end.
-use Rattle.std.proofs.Common.{◌≡◌, ℕ, zero, suc, ◌+◌, ◌-◌, ◌*◌, ◌<◌, ◌≤◌, Bool, true, false, cond, eqb, ltb, leb, List, [], ◌∷◌, ◌++◌, length, get_or, set, Some, None, Ok, Err, Option, Result, sym, refl, ap, ◌∙◌, arith}
+use Rattle.std.proofs.Common.{◌≡◌, ℕ, zero, suc, ◌+◌, ◌-◌, ◌*◌, ◌<◌, Bool, true, false, cond, eqb, ltb, leb, List, [], ◌∷◌, ◌++◌, length, set, Some, None, Ok, Err, Option, Result, refl, ap, ◌∙◌, arith}
 use Rattle.atom.specs.declared.faults.KindFault.{KindFault}
 use Rattle.ledger.proofs.Collect.{collect_agrees}
 use Rattle.ledger.proofs.Feeding.{held_start, shape_of, mended, head_agrees, tail_agrees}
 use Rattle.ledger.proofs.Flip.{Agrees}
-use Rattle.ledger.proofs.Holding.{hold_agrees, may_same}
-use Rattle.ledger.proofs.Pads.{Tidy, get_or_pad, set_pad, move_at_pads, move_at_tidy, collected_pads, bases, pad_step}
+use Rattle.ledger.proofs.Pads.{Tidy, set_pad, move_at_pads, collected_pads, bases, pad_step}
 use Rattle.ledger.proofs.Running.{Lawful, Beside, pages}
 use Rattle.ledger.proofs.Seen.{Used}
 use Rattle.ledger.proofs.Showing.{Anything, any_cons}
@@ -13,13 +12,13 @@ use Rattle.ledger.proofs.Steps.{Shape, is_nil, is_atom, is_cell, register_shape,
 use Rattle.ledger.proofs.Turns.{known_one, known_two}
 use Rattle.ledger.specs.Ledger as ledger
 use Rattle.ledger.specs.Ledger.{Ledger, Entry}
-use Rattle.ledger.specs.Padded.{pad_heap, padded, WithinStore}
+use Rattle.ledger.specs.Padded.{pad_heap, padded}
 use Rattle.ledger.specs.Runs.{Order, cons, car, cdr, rplaca, rplacd, put, load, clear, look, same, hold, back, feed, Reply, did, showed, judged, handed, took, wrote, Turn, told, turn, page, replies, machine_after}
-use Rattle.machine.specs.Calls.{Call, look_call, same_call, unless, known, admitted, needs_cell, allocated, cons_call, fetched, fetch_call, replaced, replace_call, done, set_call, load_call, clear_call, put_code}
+use Rattle.machine.specs.Calls.{Call, look_call, same_call, unless, known, admitted, needs_cell, allocated, cons_call, fetched, fetch_call, replaced, replace_call, done, put_code}
 use Rattle.machine.specs.Feed.{Fed, fed, head_moved, head_of, on_atom, walk, handed_back, feed_unless, feed_call}
 use Rattle.machine.specs.Heap as heap
 use Rattle.machine.specs.Heap.{Heap, Step, move_at, with_words, lower_top}
-use Rattle.machine.specs.Holds.{Pass, with_hold, may_hold, hold_call, BackCall, back_call, back_unless, given_back, held_for}
+use Rattle.machine.specs.Holds.{Pass, with_hold, may_hold, BackCall, back_unless, given_back, held_for}
 use Rattle.machine.specs.Machine.{Machine, register, with_register, with_heap, collected, room, grant}
 use Rattle.machine.specs.Words.{is_reference, sight_of, refer, cell_of, place_of, put_cell}
 use Rattle.machine.specs.declared.faults.MemoryFault.{MemoryFault}

@@ -1,5 +1,5 @@
 -- The collector never looks past its halves: words beyond the store's end change nothing.
-use Rattle.std.proofs.Common.{◌≡◌, ℕ, zero, suc, ◌+◌, ◌-◌, ◌*◌, ◌<◌, ◌≤◌, Bool, true, false, cond, ltb, List, [], ◌∷◌, ◌++◌, length, get_or, set, Some, None, Option, sym, refl, ap, ◌∙◌, arith}
+use Rattle.std.proofs.Common.{◌≡◌, ℕ, zero, suc, ◌+◌, ◌*◌, ◌<◌, ◌≤◌, Bool, true, false, cond, ltb, List, [], ◌∷◌, ◌++◌, length, get_or, set, Some, None, Option, refl, ap, ◌∙◌, arith}
 use Rattle.ledger.proofs.Invariant.{Ordered}
 use Rattle.ledger.specs.Padded.{pad_heap, padded}
 use Rattle.machine.specs.Heap as heap
@@ -7,7 +7,7 @@ use Rattle.machine.specs.Heap.{Heap, Step, Marks, move, move_at, move_hold, alon
 use Rattle.machine.specs.Machine.{Machine, flip, flip_due, collected, with_heap, move_registers, move_holds}
 use Rattle.machine.specs.Words.{refer, refers_into, cell_of, put_cell, cell_at}
 use Rattle.std.proofs.lemmas.List.{length-set}
-use Rattle.std.proofs.lemmas.Bool.{lt-ltb, eqb-false}
+use Rattle.std.proofs.lemmas.Bool.{eqb-false}
 use Rattle.std.proofs.lemmas.Bool.Decides.{nat_tests}
 
 pub get_or_pad : (ws ex : List ℕ) (p : ℕ) → p < length ws → get_or (ws ++ ex) p 0 ≡ get_or ws p 0

@@ -1,17 +1,17 @@
 -- With at most `limit` cells in reach at every cons, none is refused for room.
-use Rattle.std.proofs.Common.{◌≡◌, ℕ, zero, suc, ◌+◌, ◌-◌, ◌*◌, ◌<◌, ◌≤◌, Bool, true, false, cond, ◌⊎◌, length, get_or, Ok, Option, sym, refl, ap, ◌∙◌, inl, inr, arith}
-use Rattle.ledger.proofs.Collect.{collect_agrees, scan_agrees, due_over}
+use Rattle.std.proofs.Common.{◌≡◌, ℕ, ◌+◌, ◌-◌, ◌*◌, ◌<◌, ◌≤◌, Bool, true, false, cond, length, get_or, Ok, Option, sym, refl, ap, ◌∙◌, inl, inr, arith}
+use Rattle.ledger.proofs.Collect.{scan_agrees, due_over}
 use Rattle.ledger.proofs.Flip.{Agrees, flip_agrees}
-use Rattle.ledger.proofs.Invariant.{Inv, Ordered}
+use Rattle.ledger.proofs.Invariant.{Ordered}
 use Rattle.ledger.proofs.Paces.{Progress, progress, Held, flip_held}
 use Rattle.ledger.proofs.Pigeons.{pigeons, choose}
 use Rattle.ledger.proofs.Seen.{Used}
 use Rattle.ledger.proofs.Sound.{Quiet}
 use Rattle.ledger.proofs.Steps.{copied_prior}
 use Rattle.ledger.specs.Ledger.{Ledger, Few}
-use Rattle.machine.specs.Heap.{Heap, Marks, used, scan_over, scan, lower_top, trade}
-use Rattle.machine.specs.Machine.{Machine, flip, flip_due, flip_if_due, flip_line, collected, with_heap, room, ceiling}
-use Rattle.std.proofs.lemmas.Bool.{cases_eq, cases_lt, cases_Bool}
+use Rattle.machine.specs.Heap.{Heap, Marks, used, scan, trade}
+use Rattle.machine.specs.Machine.{Machine, flip, flip_due, flip_line, collected, with_heap, room, ceiling}
+use Rattle.std.proofs.lemmas.Bool.{cases_eq}
 use Rattle.std.proofs.lemmas.Bool.Decides.{nat_tests}
 use native.Mathlib.Nat.{lt_of_mul-lt-mul_left}
 

@@ -1,9 +1,9 @@
 -- Copied cells are counted by the live cells they came from.
-use Rattle.std.proofs.Common.{◌≡◌, ℕ, ◌+◌, ◌-◌, ◌<◌, ◌≤◌, cond, ltb, ◌≢◌, List, length, get_or, Option, sym, refl, ap, ◌∙◌, inl, inr, arith}
+use Rattle.std.proofs.Common.{◌≡◌, ℕ, ◌+◌, ◌-◌, ◌<◌, ◌≤◌, cond, ltb, ◌≢◌, Option, sym, ap, ◌∙◌, inl, inr, arith}
 use Rattle.ledger.proofs.Copy.{put_same, put_other}
 use Rattle.ledger.proofs.Invariant.{Inv}
 use Rattle.ledger.proofs.Pigeons.{pigeons, choose}
-use Rattle.ledger.proofs.Seen.{Seen, here, View, Used}
+use Rattle.ledger.proofs.Seen.{here, View, Used}
 use Rattle.ledger.specs.Ledger.{Row, put}
 use Rattle.machine.specs.Heap.{Marks, used}
 use Rattle.std.proofs.lemmas.Bool.{cases_eq, cases_lt}

@@ -1,9 +1,9 @@
 -- Moving a list of roots, one after the other.
-use Rattle.std.proofs.Common.{◌≡◌, ℕ, zero, suc, ◌+◌, ◌*◌, ◌<◌, ◌≤◌, List, [], ◌∷◌, length, get_or, Some, None, Option, sym, refl, ap, ◌∙◌, arith}
+use Rattle.std.proofs.Common.{◌≡◌, ℕ, zero, suc, ◌<◌, ◌≤◌, List, [], ◌∷◌, length, get_or, Some, None, Option, refl, ap, ◌∙◌, arith}
 use Rattle.ledger.proofs.Mend.{seen_same}
 use Rattle.ledger.proofs.Move.{move_keeps}
-use Rattle.ledger.proofs.Seen.{Seen, there, Used, Never, Stands, stands_on}
-use Rattle.ledger.proofs.Sound.{view_of, seen, Past, Live, Sound, Frame, Moved}
+use Rattle.ledger.proofs.Seen.{Used, Never, Stands, stands_on}
+use Rattle.ledger.proofs.Sound.{seen, Past, Live, Sound, Frame}
 use Rattle.ledger.specs.Ledger.{Row, Entry}
 use Rattle.machine.specs.Heap.{Heap, Step, move, move_hold, along}
 

@@ -1,15 +1,14 @@
 -- A run of calls on a memory and on the ledger.
-use Rattle.std.proofs.Common.{◌≡◌, ℕ, zero, suc, ◌+◌, ◌*◌, ◌^◌, ◌<◌, ◌≤◌, Bool, true, List, [], ◌∷◌, Some, None, Ok, Err, Option, Result, sym, refl, ap, ◌∙◌, arith}
+use Rattle.std.proofs.Common.{◌≡◌, ℕ, ◌^◌, ◌<◌, ◌≤◌, Bool, true, List, [], ◌∷◌, Some, Ok, Option, Result, sym, refl, ap, ◌∙◌, arith}
 use Rattle.atom.specs.declared.faults.KindFault.{KindFault}
 use Rattle.ledger.proofs.Feeding.{feed_matches}
 use Rattle.ledger.proofs.Flip.{Agrees}
 use Rattle.ledger.proofs.Holding.{hold_matches, back_matches}
-use Rattle.ledger.proofs.Same as equal
 use Rattle.ledger.proofs.Sound.{Quiet, quiet_not}
 use Rattle.ledger.proofs.Turns.{Matches, cons_matches, fetch_matches, replace_matches, set_matches, load_matches, clear_matches, look_matches, same_matches}
-use Rattle.ledger.specs.Answers.{Told, granted, Said}
+use Rattle.ledger.specs.Answers.{Said}
 use Rattle.ledger.specs.Law.{ConsCalled, EveryCons}
-use Rattle.ledger.specs.Ledger.{Ledger, Entry}
+use Rattle.ledger.specs.Ledger.{Ledger}
 use Rattle.ledger.specs.Runs.{Order, cons, car, cdr, rplaca, rplacd, put, load, clear, look, same, hold, back, feed, Reply, did, showed, judged, handed, took, wrote, Turn, told, turn, page, replies, machine_after, ledger_replies, ledger_after, tells}
 use Rattle.machine.specs.Calls.{Call}
 use Rattle.machine.specs.Machine.{Machine, Terms}

@@ -1,12 +1,10 @@
 -- Equal words stand for equal entries, and the other way round.
-use Rattle.std.proofs.Common.{◌≡◌, ℕ, ◌+◌, ◌*◌, ◌<◌, ◌≤◌, length, Some, None, Option, sym, refl, ap, ◌∙◌, arith}
-use Rattle.ledger.proofs.Invariant.{Inv}
+use Rattle.std.proofs.Common.{◌≡◌, ℕ, length, Some, Option, sym, refl, ap, ◌∙◌, arith}
 use Rattle.ledger.proofs.Roots.{WordStands}
 use Rattle.ledger.proofs.Seen.{Seen, none, code, here, there, stray, Used, Never, Stands}
 use Rattle.ledger.proofs.Sound.{seen, Past, Sound, halves}
 use Rattle.ledger.proofs.Words.{from_here, from_none, from_code}
-use Rattle.ledger.specs.Ledger.{Row, Ledger, Entry, nil, atom, cell}
-use Rattle.machine.specs.Heap as heap
+use Rattle.ledger.specs.Ledger.{Row, Entry, atom, cell}
 use Rattle.machine.specs.Heap.{Heap}
 
 module _ {X : Type 0} (meant : ℕ → Option X) (one : (a : X) (c d : ℕ) → meant c ≡ Some a → meant d ≡ Some a → c ≡ d)

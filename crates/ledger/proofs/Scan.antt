@@ -1,17 +1,14 @@
 -- Scanning keeps the heap sound.
-use Rattle.std.proofs.Common.{◌≡◌, ℕ, zero, suc, ◌+◌, ◌*◌, ◌<◌, ◌≤◌, Bool, true, false, cond, eqb, ltb, length, Option, sym, refl, ap, ◌∙◌, subst, arith}
+use Rattle.std.proofs.Common.{◌≡◌, ℕ, zero, suc, ◌+◌, ◌*◌, ◌<◌, ◌≤◌, Bool, true, false, cond, ltb, length, Option, refl, ◌∙◌, subst, arith}
 use Rattle.ledger.proofs.Cells.{OneOn, scan_keeps}
-use Rattle.ledger.proofs.Invariant.{Inv, Ordered}
 use Rattle.ledger.proofs.Mend.{Mended, mend, here_same, seen_same}
-use Rattle.ledger.proofs.Seen.{Seen, there, View, Used, Clean, Never, Pair, Stands, stands_on}
-use Rattle.ledger.proofs.Sides.{part, pair_of}
-use Rattle.ledger.proofs.Sound.{view_of, seen, Past, Live, Sound, Frame}
-use Rattle.ledger.specs.Ledger.{Row, Entry, entry}
+use Rattle.ledger.proofs.Seen.{Used, Never, Pair, Stands, stands_on}
+use Rattle.ledger.proofs.Sound.{view_of, seen, Past, Live, Sound}
+use Rattle.ledger.specs.Ledger.{Row}
 use Rattle.machine.specs.Heap as heap
 use Rattle.machine.specs.Heap.{Heap, Marks, move_at, scan, scan_cell, scan_over, scan_words, raise_scanned, with_marks}
-use Rattle.machine.specs.Words.{place_of}
 use Rattle.machine.specs.declared.side.Side.TheVariants.{Head, Tail}
-use Rattle.std.proofs.lemmas.Bool.{cases_Bool, lt-ltb, eqb-false, eqb-true}
+use Rattle.std.proofs.lemmas.Bool.{lt-ltb, eqb-false}
 
 -- what a scan leaves as it was
 pub record Swept (h h' : Heap) : Type 0 where

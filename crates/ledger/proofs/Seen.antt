@@ -1,5 +1,5 @@
 -- The halves of a heap read as words that say which half they refer to, and when such a word stands for a ledger's entry.
-use Rattle.std.proofs.Common.{◌≡◌, ℕ, ◌+◌, ◌-◌, ◌*◌, ◌<◌, ◌≤◌, Some, Option, sym, refl, ap, ◌∙◌}
+use Rattle.std.proofs.Common.{◌≡◌, ℕ, ◌<◌, ◌≤◌, Some, Option, sym, ap, ◌∙◌}
 use Rattle.ledger.specs.Ledger.{Entry, nil, atom, cell}
 use Rattle.machine.specs.Heap.{Marks}
 

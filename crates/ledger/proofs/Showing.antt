@@ -1,26 +1,24 @@
 -- What a root shows is what the ledger shows, so a refused call, which leaves the ledger as it was, leaves it.
-use Rattle.std.proofs.Common.{◌≡◌, ℕ, ◌+◌, ◌*◌, ◌<◌, ◌≤◌, Bool, true, false, List, [], ◌∷◌, is_some, Some, None, Ok, Err, Option, Result, sym, refl, ap, ◌∙◌, subst, arith}
+use Rattle.std.proofs.Common.{◌≡◌, ℕ, true, false, List, [], ◌∷◌, is_some, Some, None, Ok, Err, Option, Result, sym, refl, ap, ◌∙◌, arith}
 use Rattle.atom.specs.declared.faults.KindFault.{KindFault}
 use Rattle.ledger.proofs.Flip.{Agrees}
 use Rattle.ledger.proofs.Opening.{roots_taken, root_stands}
 use Rattle.ledger.proofs.Roots.{WordStands}
 use Rattle.ledger.proofs.Running.{Lawful, Beside, pages}
 use Rattle.ledger.proofs.Seen.{Never}
-use Rattle.ledger.proofs.Copy.{put_same}
 use Rattle.ledger.proofs.Steps.{register_agrees}
-use Rattle.ledger.proofs.Turns.{Matches, fetch_matches, look_matches}
-use Rattle.ledger.specs.Answers.{Told, Said, BackSaid, FeedSaid, unless_denied, needing, fetch_says, look_says, sighted, booking, granted, scanning, full, setting, giving, held_with, back_unless_denied, may_hold_at}
-use Rattle.ledger.specs.Law.{Root, word_of, entry_of, following, onward, walk_shows, word_shows, root_shows, failed, refusal, ConsCalled}
+use Rattle.ledger.proofs.Turns.{fetch_matches, look_matches}
+use Rattle.ledger.specs.Answers.{Told, Said, unless_denied, needing, fetch_says, look_says, booking, granted, scanning, full, setting, giving, held_with, back_unless_denied, may_hold_at}
+use Rattle.ledger.specs.Law.{Root, word_of, entry_of, following, walk_shows, word_shows, root_shows, failed, refusal, ConsCalled}
 use Rattle.ledger.specs.Ledger as ledger
 use Rattle.ledger.specs.Ledger.{Ledger, Row, Entry, nil, atom, cell, entry}
 use Rattle.ledger.specs.Runs.{Order, cons, car, cdr, rplaca, rplacd, put, load, clear, look, same, hold, back, feed, told, turn, page}
-use Rattle.machine.specs.Calls.{Call, known, fetch_call, look_call}
+use Rattle.machine.specs.Calls.{known, fetch_call}
 use Rattle.machine.specs.Holds.{Pass}
 use Rattle.machine.specs.Machine as machine
 use Rattle.machine.specs.Machine.{Machine}
 use Rattle.machine.specs.declared.faults.MemoryFault.{MemoryFault}
 use Rattle.machine.specs.declared.side.Side.{Side}
-use Rattle.machine.specs.declared.side.Side.TheVariants.{Head, Tail}
 use Rattle.machine.specs.declared.sight.Sight.{Sight}
 
 -- the same walk on the ledger

@@ -1,11 +1,11 @@
 -- The two words of a cell, one argument for both.
-use Rattle.std.proofs.Common.{◌≡◌, ℕ, ◌+◌, ◌*◌, ◌<◌, ◌≤◌, List, length, get_or, set, Option, refl}
+use Rattle.std.proofs.Common.{◌≡◌, ℕ, ◌+◌, ◌<◌, List, length, get_or, set, Option, refl}
 use Rattle.ledger.proofs.Cells.{Wrote}
 use Rattle.ledger.proofs.Seen.{Seen, View, Pair, Stands}
 use Rattle.ledger.proofs.Sound.{view_of, seen}
 use Rattle.ledger.proofs.Words.{see, view, Halves}
 use Rattle.ledger.proofs.Writes.{put_head, put_head_tail, put_head_wrote, put_tail, put_tail_head, put_tail_wrote}
-use Rattle.ledger.specs.Ledger.{Row, Entry, entry}
+use Rattle.ledger.specs.Ledger.{Row, entry}
 use Rattle.machine.specs.Heap as heap
 use Rattle.machine.specs.Heap.{Heap, Marks}
 use Rattle.machine.specs.Words.{place_of}

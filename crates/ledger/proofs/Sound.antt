@@ -1,7 +1,7 @@
 -- A heap and a ledger's row that belong together, and what the last flip left behind.
-use Rattle.std.proofs.Common.{◌≡◌, ℕ, ◌+◌, ◌*◌, ◌<◌, ◌≤◌, Bool, true, false, cond, ◌⊎◌, List, length, Option, refl, ◌∙◌, inl, inr, arith}
+use Rattle.std.proofs.Common.{◌≡◌, ℕ, ◌*◌, ◌<◌, ◌≤◌, Bool, true, false, cond, ◌⊎◌, length, Option, refl, ◌∙◌, inl, inr, arith}
 use Rattle.ledger.proofs.Invariant.{Inv, Ordered}
-use Rattle.ledger.proofs.Seen.{Seen, there, View, Used, Never, Stands}
+use Rattle.ledger.proofs.Seen.{Seen, View, Used, Never, Stands}
 use Rattle.ledger.proofs.Turn.{LiveFrom}
 use Rattle.ledger.proofs.Words.{see, view, Halves}
 use Rattle.ledger.specs.Ledger.{Row, Ledger, Entry, Reach}

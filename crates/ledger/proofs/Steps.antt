@@ -1,5 +1,5 @@
 -- What the calls do to a memory and a ledger that agree.
-use Rattle.std.proofs.Common.{◌≡◌, ℕ, ◌+◌, ◌-◌, ◌*◌, ◌<◌, ◌≤◌, Bool, true, false, cond, eqb, ltb, leb, ◌≢◌, length, get_or, set, Some, None, Ok, Err, Option, Result, sym, refl, ap, ◌∙◌, subst, inl, inr, arith}
+use Rattle.std.proofs.Common.{◌≡◌, ℕ, ◌+◌, ◌-◌, ◌<◌, ◌≤◌, true, ltb, length, get_or, set, Some, None, Ok, Option, sym, refl, ap, ◌∙◌, subst, inl, inr, arith}
 use Rattle.ledger.proofs.Cells.{Wrote, OneLess, Pushed, Rewrote, grant_keeps, grant_grown}
 use Rattle.ledger.proofs.Copy.{put_same, put_other}
 use Rattle.ledger.proofs.Flip.{Agrees}
@@ -7,18 +7,17 @@ use Rattle.ledger.proofs.Mend.{Mended, mend, put_keeps}
 use Rattle.ledger.proofs.Room.{copied_few, rank_counts}
 use Rattle.ledger.proofs.Roots.{Went, WordStands, HoldStands, word_on, hold_on}
 use Rattle.ledger.proofs.Seen.{Seen, none, code, here, there, stray, Used, Clean, Never, Stands, stands_on}
-use Rattle.ledger.proofs.Sides.{other, part, part_seen, of_pair}
-use Rattle.ledger.proofs.Sound.{view_of, seen, Past, Live, Sound, halves, live_inside, Frame, Quiet}
-use Rattle.ledger.proofs.Words.{see, see_here, from_here, from_none, from_code}
+use Rattle.ledger.proofs.Sides.{other, part, of_pair}
+use Rattle.ledger.proofs.Sound.{view_of, seen, Past, Live, Sound, halves, live_inside, Quiet}
+use Rattle.ledger.proofs.Words.{see_here, from_here, from_none, from_code}
 use Rattle.ledger.proofs.Writes.{put_cell_head, put_cell_tail, put_cell_wrote}
 use Rattle.ledger.specs.Ledger as ledger
 use Rattle.ledger.specs.Ledger.{Row, Ledger, Entry, nil, atom, cell, put, entry, pushed, rewritten, booked, with_row}
 use Rattle.machine.specs.Calls.{fetched, replaced}
 use Rattle.machine.specs.Heap as heap
 use Rattle.machine.specs.Heap.{Heap, Marks, used, scan_over, lower_top, move_at, with_words}
-use Rattle.machine.specs.Machine.{Machine, register, with_register, with_heap, grant, allocate, new_cell, room}
-use Rattle.machine.specs.Words.{refer, cell_of, is_reference, place_of, put_cell}
-use Rattle.machine.specs.declared.faults.MemoryFault.{MemoryFault}
+use Rattle.machine.specs.Machine.{Machine, register, with_register, with_heap, grant, room}
+use Rattle.machine.specs.Words.{refer, cell_of, place_of, put_cell}
 use Rattle.machine.specs.declared.side.Side.{Side}
 use Rattle.machine.specs.declared.side.Side.TheVariants.{Head, Tail}
 use Rattle.std.proofs.lemmas.List.{get_or-set_same, get_or-set_other, length-set}

@@ -1,16 +1,15 @@
 -- With fewer cells in reach than a half has, a cons that is tried again and again is granted in time.
-use Rattle.std.proofs.Common.{◌≡◌, ℕ, zero, suc, ◌+◌, ◌-◌, ◌*◌, ◌/◌, ◌<◌, ◌≤◌, Bool, true, false, cond, eqb, ltb, leb, ◌⊎◌, Ok, Err, Option, Result, sym, refl, ap, ◌∙◌, subst, inl, inr, mod-lt, div-add-mod', arith}
+use Rattle.std.proofs.Common.{◌≡◌, ℕ, zero, suc, ◌+◌, ◌-◌, ◌*◌, ◌<◌, ◌≤◌, Bool, true, false, eqb, leb, Ok, Err, Option, Result, sym, refl, ap, ◌∙◌, subst, inl, inr, mod-lt, div-add-mod', arith}
 use Rattle.ledger.proofs.Collect.{scan_agrees, due_over}
 use Rattle.ledger.proofs.Flip.{Agrees, flip_agrees}
-use Rattle.ledger.proofs.Invariant.{Ordered}
-use Rattle.ledger.proofs.Paces.{Progress, progress, Held, flip_held}
+use Rattle.ledger.proofs.Paces.{Progress, progress, flip_held}
 use Rattle.ledger.proofs.Plenty.{few_copied, flip_due_line}
 use Rattle.ledger.proofs.Turns.{Rooms, has_room, is_full, is_scanning, rooms}
 use Rattle.ledger.specs.Law.{again, Within}
 use Rattle.ledger.specs.Ledger.{Ledger, Few}
-use Rattle.machine.specs.Calls.{Call, allocated, cons_call, unless, done}
-use Rattle.machine.specs.Heap.{Heap, Marks, used, scan_over, scan, trade}
-use Rattle.machine.specs.Machine.{Machine, flip, flip_due, flip_if_due, flip_line, collected, with_heap, room, grant, ceiling}
+use Rattle.machine.specs.Calls.{Call, allocated, cons_call}
+use Rattle.machine.specs.Heap.{Heap, Marks, used, scan}
+use Rattle.machine.specs.Machine.{Machine, flip, flip_due, flip_line, collected, with_heap, room, ceiling}
 use Rattle.machine.specs.declared.faults.MemoryFault.{MemoryFault}
 use Rattle.machine.specs.declared.faults.MemoryFault.TheVariants.{Scanning, Full}
 use Rattle.std.proofs.lemmas.Bool.{cases_eq, lt-ltb, eq-eqb, ne_eqb}

@@ -1,6 +1,6 @@
 -- When the halves trade places with the scan over, the invariant holds anew: what was current and in reach is live.
-use Rattle.std.proofs.Common.{◌≡◌, ℕ, ◌+◌, ◌<◌, ◌≤◌, Option, sym, refl, ap, ◌∙◌, inl, inr, arith}
-use Rattle.ledger.proofs.Invariant.{Inv, Ordered}
+use Rattle.std.proofs.Common.{◌≡◌, ℕ, ◌<◌, Option, sym, ◌∙◌, inl, inr, arith}
+use Rattle.ledger.proofs.Invariant.{Inv}
 use Rattle.ledger.proofs.Seen.{Seen, none, code, here, there, stray, View, Used, Clean, Never, Pair, Stands}
 use Rattle.ledger.specs.Ledger.{Row, Entry, cell}
 use Rattle.machine.specs.Heap.{Marks}

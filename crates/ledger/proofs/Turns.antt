@@ -1,25 +1,24 @@
 -- Each call of the memory answers as the ledger does, and they still agree.
-use Rattle.std.proofs.Common.{◌≡◌, ℕ, ◌+◌, ◌-◌, ◌*◌, ◌^◌, ◌<◌, ◌≤◌, Bool, true, false, cond, eqb, ltb, leb, ◌⊎◌, List, [], ◌∷◌, get_or, Some, None, Ok, Err, Option, Result, sym, refl, ap, ◌∙◌, subst, inl, inr, arith}
+use Rattle.std.proofs.Common.{◌≡◌, ℕ, ◌+◌, ◌^◌, ◌<◌, ◌≤◌, Bool, true, false, cond, eqb, ltb, leb, [], ◌∷◌, Some, Ok, Err, Option, Result, sym, refl, ap, ◌∙◌, inl, inr, arith}
 use Rattle.atom.specs.declared.faults.KindFault.{KindFault}
 use Rattle.ledger.proofs.Collect.{collect_agrees}
 use Rattle.ledger.proofs.Flip.{Agrees}
 use Rattle.ledger.proofs.Roots.{WordStands}
-use Rattle.ledger.proofs.Same.{same_entry, same_word}
-use Rattle.ledger.proofs.Seen.{Used, Never, code, none}
-use Rattle.ledger.proofs.Sound.{seen, Quiet, quiet_not}
+use Rattle.ledger.proofs.Seen.{Used, Never}
+use Rattle.ledger.proofs.Sound.{Quiet, quiet_not}
 use Rattle.ledger.proofs.Steps.{Shape, is_nil, is_atom, is_cell, register_shape, register_agrees, fetch_agrees, fetch_quiet, replace_agrees, grant_agrees, room_free, room_busy}
 use Rattle.ledger.proofs.Words.{see}
-use Rattle.ledger.specs.Answers.{Told, granted, scanning, full, Said, settled, denied, unless_denied, booking, cons_says, needing, fetch_says, replace_says, setting, set_says, load_says, clear_says, sighted, look_says, same_codes, same_entries, same_says}
+use Rattle.ledger.specs.Answers.{Told, Said, settled, denied, unless_denied, booking, cons_says, needing, fetch_says, replace_says, setting, set_says, load_says, clear_says, sighted, look_says, same_entries, same_says}
 use Rattle.ledger.specs.Ledger as ledger
 use Rattle.ledger.specs.Ledger.{Ledger, Entry, nil, atom, cell}
 use Rattle.ledger.specs.Runs.{told_by}
-use Rattle.machine.specs.Calls.{Call, done, refused, unless, known, admitted, needs_cell, allocated, cons_call, fetched, fetch_call, replaced, replace_call, put_code, set_call, load_call, clear_call, look_call, same_call}
+use Rattle.machine.specs.Calls.{Call, done, refused, unless, known, needs_cell, allocated, cons_call, fetch_call, replace_call, put_code, set_call, load_call, clear_call, look_call, same_call}
 use Rattle.machine.specs.Heap as heap
 use Rattle.machine.specs.Heap.{Heap, Marks, scan_over}
 use Rattle.machine.specs.Machine.{Machine, register, with_register, collected, flip, flip_due, room, grant}
-use Rattle.machine.specs.Words.{is_reference, refer, sight_of, shown}
+use Rattle.machine.specs.Words.{refer, sight_of}
 use Rattle.machine.specs.declared.faults.MemoryFault.{MemoryFault}
-use Rattle.machine.specs.declared.faults.MemoryFault.TheVariants.{Shut, NoRegister, NotCell, Kind, Scanning, Full}
+use Rattle.machine.specs.declared.faults.MemoryFault.TheVariants.{Shut, NotCell, Kind, Scanning, Full}
 use Rattle.machine.specs.declared.side.Side.{Side}
 use Rattle.std.proofs.lemmas.Bool.{cases_eq, eq-eqb, ne_eqb}
 use Rattle.std.proofs.lemmas.Bool.Decides.{nat_tests}

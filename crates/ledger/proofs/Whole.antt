@@ -1,22 +1,20 @@
 -- The law, whole: from a granted opening, over every run.
-use Rattle.std.proofs.Common.{◌≡◌, ℕ, zero, suc, ◌+◌, ◌-◌, ◌*◌, ◌/◌, ◌<◌, ◌≤◌, Bool, true, false, cond, ltb, List, [], ◌∷◌, length, is_some, Some, None, Ok, Err, Option, Result, sym, refl, ap, ◌∙◌, subst, inl, inr, arith}
+use Rattle.std.proofs.Common.{◌≡◌, ℕ, ◌+◌, ◌-◌, ◌*◌, ◌<◌, ◌≤◌, Bool, true, false, cond, ltb, List, [], ◌∷◌, length, is_some, Some, None, Ok, Err, Option, Result, sym, refl, ap, ◌∙◌, subst, inl, inr, arith}
 use Rattle.atom.specs.declared.faults.KindFault.{KindFault}
 use Rattle.ledger.proofs.Flip.{Agrees}
-use Rattle.ledger.proofs.Invariant.{Inv}
 use Rattle.ledger.proofs.NoneRefused.{Keeps, none_refused, collected_size}
 use Rattle.ledger.proofs.Opening.{fresh_beside, few_blank, same_roots, root_stands, roots_taken}
 use Rattle.ledger.proofs.PadCalls.{run_pads}
-use Rattle.ledger.proofs.Roots.{WordStands}
-use Rattle.ledger.proofs.Running.{Lawful, Beside, Runs, runs, pages, quiets}
+use Rattle.ledger.proofs.Running.{Lawful, Beside, runs, pages, quiets}
 use Rattle.ledger.proofs.Seen.{Seen, none, code, here, there, stray, Used, Never, Stands}
 use Rattle.ledger.proofs.Showing.{Anything, any_cons, refused_shows}
-use Rattle.ledger.proofs.Sound.{view_of, seen, halves}
+use Rattle.ledger.proofs.Sound.{seen, halves}
 use Rattle.ledger.proofs.Tries.{granted_in_time, ceiling_covers, ceiling_some}
 use Rattle.ledger.proofs.Words.{old_refers_not}
 use Rattle.ledger.specs.Answers.{Told}
-use Rattle.ledger.specs.Law.{Root, word_of, entry_of, ConsCalled, EveryCons, Current, LedgerLaw, Within, told_in, ledger_of}
+use Rattle.ledger.specs.Law.{Root, word_of, entry_of, EveryCons, Current, LedgerLaw, Within}
 use Rattle.ledger.specs.Ledger.{Ledger, Entry, Few}
-use Rattle.ledger.specs.Runs.{Order, cons, car, cdr, rplaca, rplacd, put, load, clear, look, same, hold, back, feed, Reply, told, turn, page, replies, machine_after, ledger_after, tells, blank}
+use Rattle.ledger.specs.Runs.{Order, cons, car, cdr, rplaca, rplacd, put, load, clear, look, same, hold, back, feed, told, turn, page, machine_after, blank}
 use Rattle.machine.specs.Calls.{Call, unless, admitted, allocated, cons_call, done, may_open, half_of, open_call}
 use Rattle.machine.specs.Heap as heap
 use Rattle.machine.specs.Heap.{Heap, Marks}

@@ -1,12 +1,8 @@
 -- Words of the store read against the two halves, which begin at the cells cb and ob.
-use Rattle.std.proofs.Common.{◌≡◌, ℕ, ◌+◌, ◌-◌, ◌*◌, ◌<◌, ◌≤◌, true, false, cond, eqb, ltb, leb, ◌≢◌, ◌⊎◌, List, length, get_or, set, sym, refl, ap, ◌∙◌, inl, inr, arith}
-use Rattle.ledger.proofs.Copy.{Copied}
-use Rattle.ledger.proofs.Cells.{Wrote}
+use Rattle.std.proofs.Common.{◌≡◌, ℕ, ◌+◌, ◌-◌, ◌*◌, ◌<◌, ◌≤◌, true, false, cond, eqb, ltb, ◌⊎◌, List, get_or, arith}
 use Rattle.ledger.proofs.Seen.{Seen, none, code, here, there, stray, View}
 use Rattle.ledger.proofs.Turn.{swap}
-use Rattle.machine.specs.Heap.{Marks}
-use Rattle.machine.specs.Words.{refer, refers_into, cell_at, put_cell, cell_of}
-use Rattle.std.proofs.lemmas.List.{get_or-set_same, get_or-set_other, length-set}
+use Rattle.machine.specs.Words.{refer, refers_into}
 use Rattle.std.proofs.lemmas.Bool.Decides.{nat_tests}
 
 unfoldable pub see : ℕ → ℕ → ℕ → ℕ → Seen

@@ -1,8 +1,7 @@
 -- What writes to the store do to a view of it.
-use Rattle.std.proofs.Common.{◌≡◌, ℕ, ◌+◌, ◌-◌, ◌*◌, ◌<◌, ◌≤◌, ◌≢◌, ◌⊎◌, List, length, get_or, set, sym, refl, ap, ◌∙◌, inl, inr, arith}
+use Rattle.std.proofs.Common.{◌≡◌, ℕ, ◌+◌, ◌*◌, ◌<◌, List, length, set, ap, ◌∙◌, arith}
 use Rattle.ledger.proofs.Cells.{Wrote}
 use Rattle.ledger.proofs.Copy.{Copied}
-use Rattle.ledger.proofs.Seen.{Seen, here, View}
 use Rattle.ledger.proofs.Words.{see, view, Halves, see_here}
 use Rattle.machine.specs.Heap.{Marks}
 use Rattle.machine.specs.Words.{refer, cell_at, put_cell}

@@ -1,9 +1,9 @@
 -- Runs of calls, on a memory and on the ledger.
 use Rattle.std.specs.Prelude.{ℕ, Bool, List, [], ◌∷◌, None, Ok, Err, Option, Result}
 use Rattle.atom.specs.declared.faults.KindFault.{KindFault}
-use Rattle.ledger.specs.Answers.{Told, granted, scanning, full, Said, cons_says, fetch_says, replace_says, set_says, load_says, clear_says, look_says, same_says, hold_says, back_says, feed_says}
-use Rattle.ledger.specs.Ledger.{Ledger, Entry, nil}
-use Rattle.machine.specs.Calls.{Call, cons_call, fetch_call, replace_call, set_call, load_call, clear_call, look_call, same_call}
+use Rattle.ledger.specs.Answers.{Told, granted, scanning, full, cons_says, fetch_says, replace_says, set_says, load_says, clear_says, look_says, same_says, hold_says, back_says, feed_says}
+use Rattle.ledger.specs.Ledger.{Ledger, nil}
+use Rattle.machine.specs.Calls.{cons_call, fetch_call, replace_call, set_call, load_call, clear_call, look_call, same_call}
 use Rattle.machine.specs.Feed.{feed_call}
 use Rattle.machine.specs.Holds.{Pass, KeptPass, hold_call, back_call}
 use Rattle.machine.specs.Machine.{Machine}

@@ -1,9 +1,8 @@
 -- How far the collector's steps raise the marks.
-use Rattle.std.proofs.Common.{◌≡◌, ℕ, zero, suc, ◌+◌, ◌-◌, ◌*◌, ◌≤◌, Bool, true, false, cond, not, ◌⊎◌, List, [], ◌∷◌, length, Some, None, Option, sym, refl, ap, ◌∙◌, inl, inr, arith}
+use Rattle.std.proofs.Common.{◌≡◌, ℕ, zero, suc, ◌+◌, ◌*◌, ◌≤◌, Bool, true, false, cond, not, List, [], ◌∷◌, length, Some, None, Option, refl, ◌∙◌, arith}
 use Rattle.machine.specs.Heap.{Heap, Step, move, move_at, move_hold, scan_cell, scan, along, trade}
-use Rattle.machine.specs.Machine.{Machine, collected, flip, flip_if_due, flip_due, move_registers, with_heap}
+use Rattle.machine.specs.Machine.{Machine, collected, flip, flip_due, move_registers, with_heap}
 use Rattle.machine.specs.Work.{rise, copies, scans, ConsWork}
-use Rattle.std.proofs.lemmas.Bool.{cases_Bool}
 use Rattle.std.proofs.lemmas.Bool.Decides.{nat_tests}
 
 -- In the same half, at most so many cells more were scanned and copied.

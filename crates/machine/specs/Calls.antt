@@ -1,8 +1,8 @@
 -- What each call answers and leaves, in every state, for every argument.
-use Rattle.std.specs.Prelude.{ℕ, ◌+◌, ◌*◌, ◌/◌, Bool, true, cond, List, [], ◌∷◌, length, Ok, Err, Option, Result, ◌==◌, nat_le, nat_lt, slice_set}
+use Rattle.std.specs.Prelude.{ℕ, ◌+◌, ◌*◌, ◌/◌, Bool, cond, List, [], ◌∷◌, length, Ok, Err, Option, Result, ◌==◌, nat_le, nat_lt, slice_set}
 use Rattle.atom.specs.declared.faults.KindFault.{KindFault}
-use Rattle.machine.specs.Heap.{Heap, move_at, with_words}
-use Rattle.machine.specs.Machine.{Machine, Terms, fresh_machine, with_heap, with_register, register, ceiling, collected, room, grant}
+use Rattle.machine.specs.Heap.{move_at, with_words}
+use Rattle.machine.specs.Machine.{Machine, fresh_machine, with_heap, with_register, register, ceiling, collected, room, grant}
 use Rattle.machine.specs.Words.{cell_of, is_reference, place_of, sight_of}
 use Rattle.machine.specs.declared.faults.MemoryFault.{MemoryFault}
 use Rattle.machine.specs.declared.faults.MemoryFault.TheVariants.{Shut, AlreadyOpen, HalfSize, Pace, Limit, NoRegister, NotCell, Kind}

@@ -1,6 +1,6 @@
 -- Feed: the atoms of a list, written to the first places of a lent buffer.
-use Rattle.std.specs.Prelude.{ℕ, zero, suc, ◌+◌, ◌*◌, Bool, true, false, cond, List, [], ◌∷◌, length, Some, None, Ok, Err, Option, Result, ◌==◌, slice_set}
-use Rattle.machine.specs.Calls.{Call, unless, admitted, fetched}
+use Rattle.std.specs.Prelude.{ℕ, zero, suc, ◌+◌, ◌*◌, Bool, true, cond, List, [], ◌∷◌, length, Some, None, Ok, Err, Option, Result, ◌==◌, slice_set}
+use Rattle.machine.specs.Calls.{admitted, fetched}
 use Rattle.machine.specs.Heap.{move_at}
 use Rattle.machine.specs.Holds.{may_hold, with_hold}
 use Rattle.machine.specs.Machine.{Machine, register, with_heap, with_register}

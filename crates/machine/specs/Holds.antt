@@ -1,6 +1,6 @@
 -- Hold and back: a word set aside at a hold place, against a pass.
-use Rattle.std.specs.Prelude.{ℕ, cond, [], ◌∷◌, set, Some, None, Ok, Err, Option, Result, ◌==◌, nat_lt, slice_index_or, slice_set}
-use Rattle.machine.specs.Calls.{Call, refused, unless, admitted}
+use Rattle.std.specs.Prelude.{ℕ, cond, [], ◌∷◌, Some, None, Ok, Err, Option, Result, ◌==◌, nat_lt, slice_index_or, slice_set}
+use Rattle.machine.specs.Calls.{Call, unless, admitted}
 use Rattle.machine.specs.Machine.{Machine, register, with_register}
 use Rattle.machine.specs.declared.faults.MemoryFault.{MemoryFault}
 use Rattle.machine.specs.declared.faults.MemoryFault.TheVariants.{NoHold, HoldTaken, NotHeld}

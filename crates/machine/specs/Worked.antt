@@ -2,7 +2,7 @@
 use Rattle.std.specs.Prelude.{◌≡◌, ℕ, zero, suc, List, [], ◌∷◌, replicate, Ok, Err, Result}
 use Rattle.atom.specs.Axes.{axis_code}
 use Rattle.atom.specs.declared.axis.AxisWord.TheVariants.{T}
-use Rattle.machine.specs.Calls.{Call, open_call, set_call, cons_call, clear_call}
+use Rattle.machine.specs.Calls.{open_call, set_call, cons_call, clear_call}
 use Rattle.machine.specs.Machine.{Machine, shut_machine}
 use Rattle.machine.specs.Refusals.{memory_report}
 use Rattle.machine.specs.declared.faults.MemoryFault.{MemoryFault}

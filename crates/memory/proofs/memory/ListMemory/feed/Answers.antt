@@ -6,7 +6,7 @@ use Rattle.memory.proofs.Holds.{hold_refused}
 use Rattle.memory.proofs.memory.ListMemory.feed.Goals as goal
 use Rattle.memory.specs.Tokens.{pass_of, passed}
 use Rattle.memory.specs.View.{machine}
-use Rattle.std.proofs.Common.{◌≡◌, length, Ok, Err, sym, ap, ◌∙◌, rules}
+use Rattle.std.proofs.Common.{◌≡◌, length, Err, sym, ap, ◌∙◌, rules}
 
 pub returns-in_err-token : goal.returns-in_err-token
 returns-in_err-token g c =

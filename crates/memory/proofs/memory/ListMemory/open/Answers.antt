@@ -1,5 +1,4 @@
 -- The law follows from the opening's own definition and the kind's laws.
-use Rattle.ledger.proofs.Running.{Lawful}
 use Rattle.ledger.proofs.Whole.{opened_law}
 use Rattle.ledger.specs.Law.{LedgerLaw}
 use Rattle.machine.specs.Machine.{Machine}

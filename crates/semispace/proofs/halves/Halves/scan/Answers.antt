@@ -2,7 +2,6 @@ use Rattle.std.proofs.Common.{◌+◌, ◌-◌, sym, ap, ◌∙◌, arith}
 use Rattle.machine.specs.Heap.{scan}
 use Rattle.semispace.proofs.Scans.{scan_none, scan-over, scan_more}
 use Rattle.semispace.proofs.halves.Halves.scan.Goals as goal
-use Rattle.semispace.specs.View.{heap_of}
 
 pub returns-then-scan_over : goal.returns-then-scan_over
 returns-then-scan_over g c =

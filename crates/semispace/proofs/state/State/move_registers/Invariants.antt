@@ -1,4 +1,4 @@
-use Rattle.std.proofs.Common.{◌≡◌, ℕ}
+use Rattle.std.proofs.Common.{◌≡◌}
 use Rattle.machine.specs.Heap.{move}
 use Rattle.semispace.proofs.Alongs.{Going}
 use Rattle.semispace.proofs.state.State.move_registers.Given as goal
