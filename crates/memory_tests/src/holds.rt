@@ -19,7 +19,7 @@ mod tests {
 
     // Gives back what is surely held.
     fn restore<S: Store, A: Atom>(memory: &mut ListMemory<S, A>, d: usize, token: Token)
-        requires { (d < 16) × (Held (machine words memory.old) token) }
+        requires { (d < 16) × (Held (machine S.words memory.old) token) }
     {
         match memory.back(d, token) {
             Ok(()) => (),
@@ -28,7 +28,7 @@ mod tests {
     }
 
     fn clear<S: Store, A: Atom>(memory: &mut ListMemory<S, A>, r: usize) -> Result<(), MemoryFault>
-        ensures { SameHolds (machine words memory.old) (machine words memory.new) }
+        ensures { SameHolds (machine S.words memory.old) (machine S.words memory.new) }
     {
         memory.clear(r)
     }
@@ -39,7 +39,7 @@ mod tests {
         d: usize,
         token: Token,
     ) -> Result<(), MemoryFault>
-        requires { (d < 16) × (Held (machine words memory.old) token) }
+        requires { (d < 16) × (Held (machine S.words memory.old) token) }
     {
         let cleared = clear(memory, r);
         restore(memory, d, token);
@@ -65,8 +65,8 @@ mod tests {
         r: usize,
         p: usize,
     ) -> MemoryFault
-        requires { is_some (hold_at (machine words memory.old) p) ≡ true }
-        ensures { machine words memory.new ≡ machine words memory.old }
+        requires { is_some (hold_at (machine S.words memory.old) p) ≡ true }
+        ensures { machine S.words memory.new ≡ machine S.words memory.old }
     {
         match memory.hold(r, p) {
             Ok(_) => unreachable(),
@@ -80,7 +80,7 @@ mod tests {
         p: usize,
         token: Token,
     ) -> MemoryFault
-        requires { (r < 16) × ((is_some (hold_at (machine words memory.old) p) ≡ true) × (Held (machine words memory.old) token)) }
+        requires { (r < 16) × ((is_some (hold_at (machine S.words memory.old) p) ≡ true) × (Held (machine S.words memory.old) token)) }
     {
         let fault = hold_taken(memory, r, p);
         restore(memory, r, token);
@@ -104,7 +104,7 @@ mod tests {
         d: usize,
         token: Token,
     ) -> Result<(), MemoryFault>
-        requires { (d < 16) × (Held (machine words memory.old) token) }
+        requires { (d < 16) × (Held (machine S.words memory.old) token) }
     {
         match other.back(d, token) {
             Ok(()) => Ok(()),
