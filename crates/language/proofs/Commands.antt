@@ -10,7 +10,7 @@ use Rattle.language.proofs.Numbers.{Operand, number_word, number_operand, atom_w
 use Rattle.language.proofs.Words.{words_cut_again}
 use Rattle.language.specs.Laws.{Short, ShortAtom, Spaceless, Writable, command_words, rejoined, spaced_out}
 use Rattle.std.proofs.lemmas.Bool.Decides.{nat_tests}
-use Rattle.std.specs.List.{AllByRecursion as All}
+use Rattle.std.specs.List.{AllByRecursion}
 use Rattle.words.specs.Reading.{placed}
 
 -- operands, as words of a line from a column on
@@ -55,14 +55,14 @@ module _ (end column : ℕ) where
       ∙ ap (λ t. and_then t (λ atom ws. alone (d, atom) ws)) (takes_atom end (column + length (decimal d) + 1) a ha [])
 
 -- the text is short enough
-spaced_short : (ws : List (List ℕ)) → All Operand ws → length (spaced_out ws) ≤ 11 * length ws
+spaced_short : (ws : List (List ℕ)) → AllByRecursion Operand ws → length (spaced_out ws) ≤ 11 * length ws
 unfolding spaced_out
 spaced_short [] h = omega arith
 spaced_short (w ∷ ws) h =
     let more : length (spaced_out ws) ≤ 11 * length ws = spaced_short ws h.1 in
     omega (arith, h.0.small, length-append w (spaced_out ws))
 
-all_whole : (ws : List (List ℕ)) → All Operand ws → All Spaceless ws
+all_whole : (ws : List (List ℕ)) → AllByRecursion Operand ws → AllByRecursion Spaceless ws
 all_whole [] h = tt
 all_whole (w ∷ ws) h = (h.0.whole, all_whole ws h.1)
 
@@ -70,7 +70,7 @@ not_above : {V : Type 0} (n : ℕ) (above below : V) → n ≤ 64 → cond (ltb 
 not_above n above below h = grind (arith, nat_tests)
 
 -- a line of a command word and at most three operands
-line_returns : (w : List ℕ) (ws : List (List ℕ)) (command : Command) → Spaceless w → length w ≤ 6 → All Operand ws → length ws ≤ 3
+line_returns : (w : List ℕ) (ws : List (List ℕ)) (command : Command) → Spaceless w → length w ≤ 6 → AllByRecursion Operand ws → length ws ≤ 3
     → ((end : ℕ) → command_of end (placed 1 (w ∷ ws)) ≡ Ok command)
     → parsed (rejoined (w ∷ ws)) ≡ Ok command
 unfolding rejoined

@@ -2,7 +2,7 @@
 use Rattle.std.proofs.Common.{◌≡◌, ℕ, true, false, eqb, List, [], ◌∷◌, ◌++◌, refl, ap, ◌∙◌, arith}
 use Rattle.language.specs.Laws.{ended, lacks}
 use Rattle.std.proofs.lemmas.Bool.Decides.{nat_tests}
-use Rattle.std.specs.List.{AllByRecursion as All}
+use Rattle.std.specs.List.{AllByRecursion}
 use Rattle.words.proofs.Pieces.{end_cuts, other_goes_on}
 use Rattle.words.specs.Pieces.{lines_of, onto, pieces}
 
@@ -13,7 +13,7 @@ line_ends (b ∷ bs) rest h =
     let more : lacks 10 bs ≡ true = grind (arith, nat_tests) in
     other_goes_on [] 10 b (bs ++ (10 ∷ rest)) other ∙ ap (onto b) (line_ends bs rest more)
 
-pub lines_cut_again : (ls : List (List ℕ)) → All (λ l. lacks 10 l ≡ true) ls → lines_of (ended ls) ≡ ls
+pub lines_cut_again : (ls : List (List ℕ)) → AllByRecursion (λ l. lacks 10 l ≡ true) ls → lines_of (ended ls) ≡ ls
 unfolding ended pieces
 lines_cut_again [] h = refl
 lines_cut_again (l ∷ ls) h = line_ends l (ended ls) h.0 ∙ ap (λ ks. l ∷ ks) (lines_cut_again ls h.1)

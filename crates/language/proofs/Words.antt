@@ -2,7 +2,7 @@
 use Rattle.std.proofs.Common.{◌≡◌, ℕ, false, eqb, List, [], ◌∷◌, ◌++◌, sym, refl, ap, ◌∙◌, inl, inr, arith}
 use Rattle.language.specs.Laws.{spaced_out, rejoined, Spaceless}
 use Rattle.std.proofs.lemmas.Bool.{cases_Bool}
-use Rattle.std.specs.List.{AllByRecursion as All}
+use Rattle.std.specs.List.{AllByRecursion}
 use Rattle.words.proofs.Pieces.{end_cuts, other_goes_on}
 use Rattle.words.specs.Pieces.{onto, pieces, words_of}
 use Rattle.std.proofs.lemmas.Bool.Decides.{nat_tests}
@@ -38,11 +38,11 @@ words_make_the_line (b ∷ bs) =
       | inr e ↦ rw (other_goes_on ([] ∷ []) 32 b bs e) (rejoined-onto b (words_of bs) ∙ ap (λ l. b ∷ l) (words_make_the_line bs))
     ]
 
-onto_spaceless : (b : ℕ) (ws : List (List ℕ)) → eqb b 32 ≡ false → All Spaceless ws → All Spaceless (onto b ws)
+onto_spaceless : (b : ℕ) (ws : List (List ℕ)) → eqb b 32 ≡ false → AllByRecursion Spaceless ws → AllByRecursion Spaceless (onto b ws)
 onto_spaceless b [] e h = (rw e refl, tt)
 onto_spaceless b (w ∷ ws) e h = (rw e h.0, h.1)
 
-pub words_have_no_space : (line : List ℕ) → All Spaceless (words_of line)
+pub words_have_no_space : (line : List ℕ) → AllByRecursion Spaceless (words_of line)
 unfolding pieces
 words_have_no_space [] = (refl, tt)
 words_have_no_space (b ∷ bs) =
@@ -59,12 +59,12 @@ word_goes_on (b ∷ bs) rest ws h e =
     let more : Spaceless bs = grind (arith, nat_tests) in
     other_goes_on ([] ∷ []) 32 b (bs ++ rest) other ∙ ap (onto b) (word_goes_on bs rest ws more e)
 
-spaces_cut_again : (ws : List (List ℕ)) → All Spaceless ws → words_of (spaced_out ws) ≡ [] ∷ ws
+spaces_cut_again : (ws : List (List ℕ)) → AllByRecursion Spaceless ws → words_of (spaced_out ws) ≡ [] ∷ ws
 unfolding spaced_out pieces
 spaces_cut_again [] h = refl
 spaces_cut_again (w ∷ ws) h =
     ap (λ vs. [] ∷ vs) (word_goes_on w (spaced_out ws) ws h.0 (spaces_cut_again ws h.1))
 
-pub words_cut_again : (w : List ℕ) (ws : List (List ℕ)) → All Spaceless (w ∷ ws) → words_of (rejoined (w ∷ ws)) ≡ w ∷ ws
+pub words_cut_again : (w : List ℕ) (ws : List (List ℕ)) → AllByRecursion Spaceless (w ∷ ws) → words_of (rejoined (w ∷ ws)) ≡ w ∷ ws
 unfolding rejoined
 words_cut_again w ws h = word_goes_on w (spaced_out ws) ws h.0 (spaces_cut_again ws h.1)

@@ -7,7 +7,7 @@ use Rattle.command.specs.Commands.{parsed}
 use Rattle.verb.specs.Verbs.{spells}
 use Rattle.command.specs.declared.command.Command.TheVariants.{Open, Set, Cons, Car, Cdr, Rplaca, Rplacd, Load, Clear, Look, Same}
 use Rattle.command.specs.declared.command.Command.{Command}
-use Rattle.std.specs.List.{AllByRecursion as All}
+use Rattle.std.specs.List.{AllByRecursion}
 use Rattle.words.specs.Pieces.{lines_of, words_of}
 
 -- words with a space before each
@@ -32,8 +32,8 @@ Spaceless w = lacks 32 w ≡ true
 abbrev pub WordsRejoin : Type 0
 WordsRejoin =
     ((line : List ℕ) → rejoined (words_of line) ≡ line)
-    × ((line : List ℕ) → All Spaceless (words_of line))
-    × ((w : List ℕ) (ws : List (List ℕ)) → All Spaceless (w ∷ ws) → words_of (rejoined (w ∷ ws)) ≡ w ∷ ws)
+    × ((line : List ℕ) → AllByRecursion Spaceless (words_of line))
+    × ((w : List ℕ) (ws : List (List ℕ)) → AllByRecursion Spaceless (w ∷ ws) → words_of (rejoined (w ∷ ws)) ≡ w ∷ ws)
 
 -- lines with a line feed after each
 unfoldable pub ended : List (List ℕ) → List ℕ
@@ -42,7 +42,7 @@ ended (l ∷ ls) = l ++ (10 ∷ ended ls)
 
 -- Lines without a line feed in them, ended by one each, are the lines of their text.
 abbrev pub LinesReturn : Type 0
-LinesReturn = (ls : List (List ℕ)) → All (λ l. lacks 10 l ≡ true) ls → lines_of (ended ls) ≡ ls
+LinesReturn = (ls : List (List ℕ)) → AllByRecursion (λ l. lacks 10 l ≡ true) ls → lines_of (ended ls) ≡ ls
 
 -- A word spells a text just if it is that text.
 abbrev pub SpellingDecides : Type 0
