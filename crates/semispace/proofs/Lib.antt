@@ -1,2 +1,3 @@
 mod Alongs
+mod Moves
 mod Scans

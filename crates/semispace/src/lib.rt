@@ -2,8 +2,9 @@
 #![tactic(auto)]
 
 pub mod cells;
-pub mod halves;
+pub mod half;
 pub mod marks;
 pub mod roots;
+pub mod space;
 pub mod state;
 pub mod terms;

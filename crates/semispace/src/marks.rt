@@ -1,5 +1,5 @@
 // The marks of the current half. Their order is part of the type, so they are always written whole.
-ghost use Rattle.std.specs.Prelude.{◌≤◌};
+use std::marker::Model;
 
 pub mod steps;
 
@@ -15,6 +15,17 @@ pub struct Marks {
     pub(crate) prior: usize,
     // cells of one half
     pub(crate) size: usize,
-    ghost ordered: { (scanned ≤ copied) × (copied ≤ top) × (top ≤ size) },
-    ghost small: { size ≤ 4096 },
+}
+
+impl Model for Marks {
+    ghost use Rattle.std.specs.Prelude.{◌≤◌};
+    ghost use Rattle.machine.specs.Heap as plain;
+
+    ghost Value = { plain.Marks };
+
+    ghost view = { λ m. record { scanned = m.scanned; copied = m.copied; top = m.top; prior = m.prior; size = m.size } };
+
+    ghost invariant = { λ m. (m.scanned ≤ m.copied) × ((m.copied ≤ m.top) × ((m.top ≤ m.size) × (m.size ≤ 4096))) };
+
+    ghost inverse = { λ m. record { scanned = m.scanned; copied = m.copied; top = m.top; prior = m.prior; size = m.size } };
 }

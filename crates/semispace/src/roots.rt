@@ -1,9 +1,22 @@
 // Where every walk begins: 16 registers, and 8 hold places, each free or taken with a word.
-ghost use Rattle.std.specs.Prelude.{◌≡◌, length};
+ghost use Rattle.std.specs.Prelude.{◌≡◌, length, replicate, None};
 
-#[derive(Clone, Copy)]
+#[derive(Drop)]
 pub struct Roots {
-    pub registers: [u32; 16],
-    pub holds: [Option<u32>; 8],
+    pub(crate) registers: [u32; 16],
+    pub(crate) holds: [Option<u32>; 8],
     ghost sized: { (length registers ≡ 16) × (length holds ≡ 8) },
+}
+
+impl Roots {
+    // Every register with nil, every hold place free.
+    pub(crate) fn empty() -> Roots
+        ensures registers { result.registers ≡ replicate 16 0 }
+        ensures holds { result.holds ≡ replicate 8 None }
+    {
+        Roots {
+            registers: [0; 16],
+            holds: [None; 8],
+        }
+    }
 }

@@ -1,14 +1,25 @@
 // What was agreed at opening.
-ghost use Rattle.std.specs.Prelude.{◌≤◌};
+use std::marker::Model;
 
 #[derive(Clone, Copy)]
 pub struct Terms {
     // how many cells a cons scans at most
-    pub pace: usize,
+    pub(crate) pace: usize,
     // how many cells may be in reach
-    pub limit: usize,
+    pub(crate) limit: usize,
     // the memory's number, its opener's choice
-    pub number: u32,
-    ghost paced: { (1 ≤ pace) × (pace ≤ 64) },
-    ghost few: { limit ≤ 4096 },
+    pub(crate) number: u32,
+}
+
+impl Model for Terms {
+    ghost use Rattle.std.specs.Prelude.{◌≤◌};
+    ghost use Rattle.machine.specs.Machine as plain;
+
+    ghost Value = { plain.Terms };
+
+    ghost view = { λ t. record { pace = t.pace; limit = t.limit; number = t.number } };
+
+    ghost invariant = { λ t. (1 ≤ t.pace) × ((t.pace ≤ 64) × (t.limit ≤ 4096)) };
+
+    ghost inverse = { λ t. record { pace = t.pace; limit = t.limit; number = t.number } };
 }

@@ -4,7 +4,6 @@ ghost use Rattle.machine.specs.Feed.{feed_call, walk};
 ghost use Rattle.machine.specs.Holds.{back_call};
 ghost use Rattle.memory.specs.Steps.{next_call, past, SameHolds};
 ghost use Rattle.memory.specs.Tokens.{Held, pass_of};
-ghost use Rattle.memory.specs.View.{machine};
 
 use super::ListMemory;
 use crate::token::Token;
@@ -18,20 +17,21 @@ impl<S: Store, A: Atom> ListMemory<S, A> {
     // The next atom of the list in r, or none at its end. A refusal names how many went before.
     fn next(&mut self, r: usize, n: usize) -> Result<Option<A>, MemoryFault>
         requires { r < 16 }
-        ensures answer { result ≡ (next_call A.meant (machine S.words self.old) r n).answer }
-        ensures after { machine S.words self.new ≡ (next_call A.meant (machine S.words self.old) r n).after }
+        ensures answer { result ≡ (next_call A.meant self.old r n).answer }
+        ensures after { self.new ≡ (next_call A.meant self.old r n).after }
     {
-        let word = self.state.roots.registers[r];
+        let word = self.space.register(r);
         if word == 0 {
             return Ok(None);
         }
         if !is_reference(word) {
             return Err(MemoryFault::NotCell(n));
         }
-        let head = self.move_at(place_of(Side::Head, word));
+        let head = self.space.move_at(place_of(Side::Head, word));
         match A::read(head) {
             Some(atom) => {
-                self.state.roots.registers[r] = self.move_at(place_of(Side::Tail, word));
+                let tail = self.space.move_at(place_of(Side::Tail, word));
+                self.space.set_register(r, tail);
                 Ok(Some(atom))
             }
             None => Err(MemoryFault::NotAtom(n)),
@@ -41,24 +41,24 @@ impl<S: Store, A: Atom> ListMemory<S, A> {
     // Fills the buffer until the list in r ends or the buffer is full.
     fn walk(&mut self, r: usize, buffer: &mut [A]) -> Result<(usize, bool), MemoryFault>
         requires { r < 16 }
-        ensures answer { result ≡ (walk A.meant r (length buffer.old) 0 (machine S.words self.old) buffer.old).answer }
-        ensures after { machine S.words self.new ≡ (walk A.meant r (length buffer.old) 0 (machine S.words self.old) buffer.old).after }
-        ensures buffer { buffer.new ≡ (walk A.meant r (length buffer.old) 0 (machine S.words self.old) buffer.old).buffer }
-        ensures holds { SameHolds (machine S.words self.old) (machine S.words self.new) }
+        ensures answer { result ≡ (walk A.meant r (length buffer.old) 0 self.old buffer.old).answer }
+        ensures after { self.new ≡ (walk A.meant r (length buffer.old) 0 self.old buffer.old).after }
+        ensures buffer { buffer.new ≡ (walk A.meant r (length buffer.old) 0 self.old buffer.old).buffer }
+        ensures holds { SameHolds self.old self.new }
     {
-        for n in 0..buffer.len() {
+        for (n, place) in buffer.iter_mut().enumerate() {
             match self.next(r, n)? {
-                Some(atom) => buffer[n] = atom,
+                Some(atom) => *place = atom,
                 None => return Ok((n, true)),
             }
         }
-        Ok((buffer.len(), self.state.roots.registers[r] == 0))
+        Ok((buffer.len(), self.space.register(r) == 0))
     }
 
     // Gives back to r what was held: a back that is not refused.
     fn restore(&mut self, r: usize, token: Token)
-        requires { (r < 16) × (Held (machine S.words self.old) token) }
-        ensures { machine S.words self.new ≡ (back_call (machine S.words self.old) r (pass_of token)).after }
+        requires { (r < 16) × (Held self.old token) }
+        ensures { self.new ≡ (back_call self.old r (pass_of token)).after }
     {
         match self.back(r, token) {
             Ok(()) => (),
@@ -73,10 +73,10 @@ impl<S: Store, A: Atom> ListMemory<S, A> {
         token: Token,
         buffer: &mut [A],
     ) -> Result<(usize, bool), MemoryFault>
-        requires { (r < 16) × (Held (machine S.words self.old) token) }
-        ensures answer { result ≡ (walk A.meant r (length buffer.old) 0 (machine S.words self.old) buffer.old).answer }
-        ensures after { machine S.words self.new ≡ (back_call (walk A.meant r (length buffer.old) 0 (machine S.words self.old) buffer.old).after r (pass_of token)).after }
-        ensures buffer { buffer.new ≡ (walk A.meant r (length buffer.old) 0 (machine S.words self.old) buffer.old).buffer }
+        requires { (r < 16) × (Held self.old token) }
+        ensures answer { result ≡ (walk A.meant r (length buffer.old) 0 self.old buffer.old).answer }
+        ensures after { self.new ≡ (back_call (walk A.meant r (length buffer.old) 0 self.old buffer.old).after r (pass_of token)).after }
+        ensures buffer { buffer.new ≡ (walk A.meant r (length buffer.old) 0 self.old buffer.old).buffer }
     {
         let answer = self.walk(r, buffer);
         self.restore(r, token);
@@ -90,9 +90,9 @@ impl<S: Store, A: Atom> ListMemory<S, A> {
         p: usize,
         buffer: &mut [A],
     ) -> Result<(usize, bool), MemoryFault>
-        ensures answer { result ≡ (feed_call A.meant (machine S.words self.old) r p buffer.old).answer }
-        ensures after { machine S.words self.new ≡ (feed_call A.meant (machine S.words self.old) r p buffer.old).after }
-        ensures buffer { buffer.new ≡ (feed_call A.meant (machine S.words self.old) r p buffer.old).buffer }
+        ensures answer { result ≡ (feed_call A.meant self.old r p buffer.old).answer }
+        ensures after { self.new ≡ (feed_call A.meant self.old r p buffer.old).after }
+        ensures buffer { buffer.new ≡ (feed_call A.meant self.old r p buffer.old).buffer }
     {
         let token = self.hold(r, p)?;
         self.feed_held(r, token, buffer)

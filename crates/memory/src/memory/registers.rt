@@ -2,7 +2,6 @@
 ghost use Rattle.machine.specs.Calls.{set_call, load_call, clear_call, look_call, same_call};
 ghost use Rattle.machine.specs.Words.{sight_of};
 ghost use Rattle.machine.specs.Work.{NoWork};
-ghost use Rattle.memory.specs.View.{machine};
 ghost use Rattle.std.specs.Prelude.{◌≡◌};
 
 use super::ListMemory;
@@ -30,46 +29,46 @@ fn sight<A: Atom>(word: u32) -> Sight<A>
 
 impl<S: Store, A: Atom> ListMemory<S, A> {
     pub fn set(&mut self, d: usize, atom: A) -> Result<(), MemoryFault>
-        ensures answer { result ≡ (set_call (machine S.words self.old) d (A.coded atom)).answer }
-        ensures after { machine S.words self.new ≡ (set_call (machine S.words self.old) d (A.coded atom)).after }
-        ensures bounded { NoWork (machine S.words self.old) (machine S.words self.new) }
+        ensures answer { result ≡ (set_call self.old d (A.coded atom)).answer }
+        ensures after { self.new ≡ (set_call self.old d (A.coded atom)).after }
+        ensures bounded { NoWork self.old self.new }
     {
-        self.admit(&[d])?;
-        self.state.roots.registers[d] = atom.code()?;
+        self.space.admit(&[d])?;
+        self.space.set_register(d, atom.code()?);
         Ok(())
     }
 
     pub fn load(&mut self, d: usize, r: usize) -> Result<(), MemoryFault>
-        ensures answer { result ≡ (load_call (machine S.words self.old) d r).answer }
-        ensures after { machine S.words self.new ≡ (load_call (machine S.words self.old) d r).after }
-        ensures bounded { NoWork (machine S.words self.old) (machine S.words self.new) }
+        ensures answer { result ≡ (load_call self.old d r).answer }
+        ensures after { self.new ≡ (load_call self.old d r).after }
+        ensures bounded { NoWork self.old self.new }
     {
-        self.admit(&[d, r])?;
-        self.state.roots.registers[d] = self.state.roots.registers[r];
+        self.space.admit(&[d, r])?;
+        self.space.set_register(d, self.space.register(r));
         Ok(())
     }
 
     pub fn clear(&mut self, d: usize) -> Result<(), MemoryFault>
-        ensures answer { result ≡ (clear_call (machine S.words self.old) d).answer }
-        ensures after { machine S.words self.new ≡ (clear_call (machine S.words self.old) d).after }
-        ensures bounded { NoWork (machine S.words self.old) (machine S.words self.new) }
+        ensures answer { result ≡ (clear_call self.old d).answer }
+        ensures after { self.new ≡ (clear_call self.old d).after }
+        ensures bounded { NoWork self.old self.new }
     {
-        self.admit(&[d])?;
-        self.state.roots.registers[d] = 0;
+        self.space.admit(&[d])?;
+        self.space.set_register(d, 0);
         Ok(())
     }
 
     pub fn look(&self, r: usize) -> Result<Sight<A>, MemoryFault>
-        ensures { result ≡ (look_call A.meant (machine S.words self.now) r).answer }
+        ensures { result ≡ (look_call A.meant self.now r).answer }
     {
-        self.admit(&[r])?;
-        Ok(sight(self.state.roots.registers[r]))
+        self.space.admit(&[r])?;
+        Ok(sight(self.space.register(r)))
     }
 
     pub fn same(&self, a: usize, b: usize) -> Result<bool, MemoryFault>
-        ensures { result ≡ (same_call (machine S.words self.now) a b).answer }
+        ensures { result ≡ (same_call self.now a b).answer }
     {
-        self.admit(&[a, b])?;
-        Ok(self.state.roots.registers[a] == self.state.roots.registers[b])
+        self.space.admit(&[a, b])?;
+        Ok(self.space.register(a) == self.space.register(b))
     }
 }

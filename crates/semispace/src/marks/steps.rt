@@ -2,7 +2,6 @@
 ghost use Rattle.std.specs.Prelude.{◌≡◌, ◌+◌, ◌<◌, ◌≤◌, nat_lt};
 ghost use Rattle.machine.specs.Heap.{empty_marks, used, scan_over, raise_scanned, raise_copied, lower_top};
 ghost use Rattle.machine.specs.Machine.{room};
-ghost use Rattle.semispace.specs.View.{marks_of};
 
 use super::Marks;
 use machine::faults::MemoryFault;
@@ -11,7 +10,7 @@ impl Marks {
     // The marks of a half with nothing in it.
     pub(crate) fn empty(size: usize, prior: usize) -> Marks
         requires { size ≤ 4096 }
-        ensures { marks_of result ≡ empty_marks size prior }
+        ensures { result ≡ empty_marks size prior }
     {
         Marks {
             scanned: 0,
@@ -23,13 +22,13 @@ impl Marks {
     }
 
     pub(crate) fn used(self) -> usize
-        ensures { result ≡ used (marks_of self) }
+        ensures { result ≡ used self }
     {
         self.copied + (self.size - self.top)
     }
 
     pub(crate) fn scan_over(self) -> bool
-        ensures { result ≡ scan_over (marks_of self) }
+        ensures { result ≡ scan_over self }
     {
         self.scanned == self.copied
     }
@@ -42,8 +41,8 @@ impl Marks {
     }
 
     // Whether a cons may have a cell, or which refusal it gets.
-    pub fn room(self) -> Result<(), MemoryFault>
-        ensures { result ≡ room (marks_of self) }
+    pub(crate) fn room(self) -> Result<(), MemoryFault>
+        ensures { result ≡ room self }
     {
         if self.scan_over() {
             if self.copied < self.top {
@@ -60,73 +59,40 @@ impl Marks {
 
     // One cell more was scanned.
     pub(crate) fn scanned_one(self) -> Marks
-        ensures { marks_of result ≡ raise_scanned (marks_of self) }
+        ensures { result ≡ raise_scanned self }
     {
-        let Marks {
-            scanned,
-            copied,
-            top,
-            prior,
-            size,
-        } = self;
-        if scanned < copied {
-            Marks {
-                scanned: scanned + 1,
-                copied,
-                top,
-                prior,
-                size,
-            }
-        } else {
-            self
+        if self.scan_over() {
+            return self;
+        }
+        Marks {
+            scanned: self.scanned + 1,
+            ..self
         }
     }
 
     // One cell more was copied.
     pub(crate) fn copied_one(self) -> Marks
-        ensures { marks_of result ≡ raise_copied (marks_of self) }
+        ensures { result ≡ raise_copied self }
     {
-        let Marks {
-            scanned,
-            copied,
-            top,
-            prior,
-            size,
-        } = self;
-        if copied < top {
-            Marks {
-                scanned,
-                copied: copied + 1,
-                top,
-                prior,
-                size,
-            }
-        } else {
-            self
+        if !self.has_room() {
+            return self;
+        }
+        Marks {
+            copied: self.copied + 1,
+            ..self
         }
     }
 
     // One cell more was allocated.
     pub(crate) fn allocated_one(self) -> Marks
-        ensures { marks_of result ≡ lower_top (marks_of self) }
+        ensures { result ≡ lower_top self }
     {
-        let Marks {
-            scanned,
-            copied,
-            top,
-            prior,
-            size,
-        } = self;
-        if copied < top {
-            Marks {
-                scanned,
-                copied,
-                top: top - 1,
-                prior,
-                size,
-            }
-        } else {
-            self
+        if !self.has_room() {
+            return self;
+        }
+        Marks {
+            top: self.top - 1,
+            ..self
         }
     }
 }

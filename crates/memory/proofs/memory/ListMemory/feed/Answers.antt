@@ -1,16 +1,16 @@
 use Rattle.machine.specs.Feed.{walk}
-use Rattle.machine.specs.Holds.{back_call}
+use Rattle.machine.specs.Holds.{back_call, hold_at}
 use Rattle.machine.specs.Machine.{Machine}
 use Rattle.memory.proofs.Feeds.{feed_refused, feed_held}
 use Rattle.memory.proofs.Holds.{hold_refused}
 use Rattle.memory.proofs.memory.ListMemory.feed.Goals as goal
 use Rattle.memory.specs.Tokens.{pass_of, passed}
-use Rattle.memory.specs.View.{machine}
+use Rattle.std.specs.Prelude.{is_some}
 use Rattle.std.proofs.Common.{◌≡◌, length, Err, sym, ap, ◌∙◌, rules}
 
 pub returns-in_err-token : goal.returns-in_err-token
 returns-in_err-token g c =
-    let before : Machine = machine g.S.Store.words c.args.self.now in
+    let before : Machine = c.args.self.now in
     let told = ap passed (sym c.in_err-token.was) ∙ c.hold.ensures.answer in
     let refused : c.from_residual.result ≡ Err c.in_err-token.field-0.0 = search rules in
     let all = feed_refused g.A.Atom.meant before c.args.r c.args.p c.args.buffer.now _ told in
@@ -22,9 +22,10 @@ returns-in_err-token g c =
 
 pub returns : goal.returns
 returns g c =
-    let before : Machine = machine g.S.Store.words c.args.self.now in
+    let before : Machine = c.args.self.now in
     let told = ap passed (sym c.in_ok-token.was) ∙ c.hold.ensures.answer in
-    let all = feed_held g.A.Atom.meant before c.args.r c.args.p c.args.buffer.now (pass_of c.in_ok-token.token) c.args.self.now.state.roots.sized.1 told in
+    let put = ap (λ m. is_some (hold_at m c.in_ok-token.token.place)) (sym c.hold.ensures.after) ∙ c.in_ok-token.ensures.held.2 in
+    let all = feed_held g.A.Atom.meant before c.args.r c.args.p c.args.buffer.now (pass_of c.in_ok-token.token) put told in
     let held = ap (λ m. walk g.A.Atom.meant c.args.r (length c.args.buffer.now) 0 m c.args.buffer.now) c.hold.ensures.after in
     record {
       answer = c.feed_held.ensures.answer ∙ ap (λ w. w.answer) held ∙ sym (ap (λ w. w.answer) all);

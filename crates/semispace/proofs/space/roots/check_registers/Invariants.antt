@@ -1,5 +1,5 @@
 use Rattle.machine.specs.Calls.{known}
-use Rattle.memory.proofs.memory.check_registers.Given as goal
+use Rattle.semispace.proofs.space.roots.check_registers.Given as goal
 use Rattle.std.proofs.Common.{◌≡◌, drop}
 
 -- the registers that are left give the answer

@@ -1,0 +1,74 @@
+// The registers and the hold places, read and written by number. One that is not there reads as nil or free, and is not written.
+ghost use Rattle.machine.specs.Calls.{admitted, known};
+ghost use Rattle.machine.specs.Holds.{hold_at, with_hold};
+ghost use Rattle.machine.specs.Machine.{register, with_register};
+ghost use Rattle.machine.specs.Words.{place_of};
+ghost use Rattle.std.specs.Prelude.{◌≡◌, length};
+
+use super::Semispace;
+use machine::faults::MemoryFault;
+use store::words::Store;
+
+const REGISTERS: usize = 16;
+
+const HOLDS: usize = 8;
+
+// The first register above 15 is refused.
+fn check_registers(registers: &[usize]) -> Result<(), MemoryFault>
+    ensures { result ≡ known registers.now }
+{
+    for r in registers {
+        if *r >= REGISTERS {
+            return Err(MemoryFault::NoRegister(*r));
+        }
+    }
+    Ok(())
+}
+
+impl<S: Store> Semispace<S> {
+    // Whether the memory is open and has all these registers.
+    pub fn admit(&self, registers: &[usize]) -> Result<(), MemoryFault>
+        ensures { result ≡ admitted self.now registers.now }
+    {
+        if !self.state.opened {
+            return Err(MemoryFault::Shut);
+        }
+        check_registers(registers)
+    }
+
+    pub fn register(&self, r: usize) -> u32
+        ensures { result ≡ register self.now r }
+    {
+        self.state.roots.registers.get(r).copied().unwrap_or(0)
+    }
+
+    pub fn set_register(&mut self, d: usize, word: u32)
+        ensures { self.new ≡ with_register self.old d word }
+    {
+        if d < REGISTERS {
+            self.state.roots.registers[d] = word;
+        }
+    }
+
+    pub fn hold_at(&self, p: usize) -> Option<u32>
+        ensures { result ≡ hold_at self.now p }
+    {
+        *self.state.roots.holds.get(p)?
+    }
+
+    pub fn set_hold(&mut self, p: usize, hold: Option<u32>)
+        ensures after { self.new ≡ with_hold self.old p hold }
+        ensures eight { length self.new.roots.holds ≡ 8 }
+    {
+        if p < HOLDS {
+            self.state.roots.holds[p] = hold;
+        }
+    }
+
+    // The number that the memory was opened with.
+    pub fn number(&self) -> u32
+        ensures { result ≡ self.now.terms.number }
+    {
+        self.state.terms.number
+    }
+}
