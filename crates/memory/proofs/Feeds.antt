@@ -1,5 +1,5 @@
 -- A feed is a hold, a walk and a back that is granted.
-use Rattle.std.proofs.Common.{◌≡◌, ℕ, ◌<◌, Bool, true, false, cond, ltb, List, [], ◌∷◌, length, get_or, set, Some, None, Ok, Err, Option, Result, sym, refl, ap, ◌∙◌, inl, inr, arith}
+use Rattle.std.proofs.Common.{◌≡◌, ℕ, Bool, true, false, cond, ltb, List, [], ◌∷◌, length, get_or, set, Some, None, Ok, Err, Option, Result, sym, refl, ap, ◌∙◌, inl, inr, arith}
 use Rattle.machine.specs.Calls.{unless, admitted}
 use Rattle.machine.specs.Feed.{Fed, fed, feed_unless, feed_call, handed_back, walk}
 use Rattle.machine.specs.Holds.{Pass, vacant, may_hold, with_hold, hold_at, hold_call, back_call}

@@ -1,4 +1,7 @@
 // What was agreed at opening.
+ghost use Rattle.machine.specs.Machine.{ceiling};
+ghost use Rattle.std.specs.Prelude.{◌≡◌, ◌≤◌};
+
 use std::marker::Model;
 
 #[derive(Clone, Copy)]
@@ -22,4 +25,12 @@ impl Model for Terms {
     ghost invariant = { λ t. (1 ≤ t.pace) × ((t.pace ≤ 64) × (t.limit ≤ 4096)) };
 
     ghost inverse = { λ t. record { pace = t.pace; limit = t.limit; number = t.number } };
+}
+
+// How many conses scan the cells in reach: so many cells are allocated meanwhile.
+pub(crate) fn conses_to_scan(limit: usize, pace: usize) -> usize
+    requires { 1 ≤ pace }
+    ensures { result ≡ ceiling limit pace }
+{
+    limit.div_ceil(pace)
 }

@@ -79,7 +79,8 @@ impl<S: Store, A: Atom> ListMemory<S, A> {
         self.space.admit(&[r, v])?;
         let word = self.space.register(r);
         need_cell(r, word)?;
-        self.space.put_word(place_of(side, word), self.space.register(v));
+        self.space
+            .put_word(place_of(side, word), self.space.register(v));
         Ok(())
     }
 

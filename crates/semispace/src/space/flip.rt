@@ -4,6 +4,7 @@ ghost use Rattle.machine.specs.Heap.{Heap, Step, along, move, move_hold};
 ghost use Rattle.machine.specs.Machine.{flip, flip_due, flip_if_due, flip_line, move_holds, move_registers, with_heap};
 
 use super::Semispace;
+use crate::terms::conses_to_scan;
 use store::words::Store;
 
 // What a walk begins from, as it lies in its array: a register's word, or a hold place.
@@ -76,7 +77,7 @@ impl<S: Store> Semispace<S> {
         ensures { result ≡ flip_line self.now }
     {
         let terms = self.state.terms;
-        let reserve = (terms.limit + terms.pace - 1) / terms.pace;
+        let reserve = conses_to_scan(terms.limit, terms.pace);
         self.state.marks.size.saturating_sub(reserve)
     }
 

@@ -9,7 +9,7 @@ use crate::half::Half;
 use crate::marks::Marks;
 use crate::roots::Roots;
 use crate::state::State;
-use crate::terms::Terms;
+use crate::terms::{Terms, conses_to_scan};
 use machine::faults::MemoryFault;
 use store::words::Store;
 
@@ -20,7 +20,7 @@ fn check_limit(size: usize, pace: usize, limit: usize) -> Result<(), MemoryFault
     ensures few { OnOk result (limit ≤ 4096) }
 {
     // a limit above the size is told first, so that the sum stays small
-    if limit == 0 || limit > size || limit + 2 * ((limit + pace - 1) / pace) > size {
+    if limit == 0 || limit > size || limit + 2 * conses_to_scan(limit, pace) > size {
         return Err(MemoryFault::Limit);
     }
     Ok(())

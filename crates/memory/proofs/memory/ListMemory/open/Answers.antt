@@ -4,7 +4,7 @@ use Rattle.ledger.specs.Law.{LedgerLaw}
 use Rattle.machine.specs.Calls.{open_call}
 use Rattle.machine.specs.Machine.{Machine}
 use Rattle.memory.proofs.memory.ListMemory.open.Goals as goal
-use Rattle.std.proofs.Common.{◌≡◌, Ok, sym, ◌∙◌, subst, rules}
+use Rattle.std.proofs.Common.{◌≡◌, Ok, sym, subst, rules}
 
 pub returns-clause-law : goal.returns-clause-law
 returns-clause-law g c e orders =
