@@ -6,6 +6,7 @@ ghost use Rattle.std.proofs.Common.{rules};
 
 use super::faults::KindFault;
 use super::kind::Atom;
+use super::placed::{around, offset};
 
 #[derive(Clone, Copy, PartialEq, Eq, Debug)]
 pub enum AxisWord {
@@ -22,7 +23,7 @@ pub enum AxisWord {
 // a tag stands above the payload's 24 bits; a move's payload is its target plus 2^23
 const PAYLOADS: u32 = 16_777_216;
 
-const MIDDLE: i32 = 8_388_608;
+const MIDDLE: u32 = 8_388_608;
 
 const TOOLS: u32 = 256;
 
@@ -30,10 +31,7 @@ fn move_code(tag: u8, target: i32) -> Result<u32, KindFault>
     requires { tag ≤ 5 }
     ensures answer { result ≡ move_code tag target }
 {
-    if target < -MIDDLE || target >= MIDDLE {
-        return Err(KindFault::OutOfRange);
-    }
-    Ok(tag as u32 * PAYLOADS + (target + MIDDLE) as u32)
+    around(MIDDLE, u32::from(tag) * PAYLOADS + MIDDLE, target)
 }
 
 fn plain_code(tag: u8, limit: u32, number: u32) -> Result<u32, KindFault>
@@ -43,7 +41,7 @@ fn plain_code(tag: u8, limit: u32, number: u32) -> Result<u32, KindFault>
     if number >= limit {
         return Err(KindFault::OutOfRange);
     }
-    Ok(tag as u32 * PAYLOADS + number)
+    Ok(u32::from(tag) * PAYLOADS + number)
 }
 
 impl Atom for AxisWord {
@@ -75,7 +73,7 @@ impl Atom for AxisWord {
 
     fn read(word: u32) -> Option<AxisWord> {
         let payload = word % PAYLOADS;
-        let target = payload as i32 - MIDDLE;
+        let target = offset(MIDDLE, payload);
         match word / PAYLOADS {
             1 => Some(AxisWord::X(target)),
             2 => Some(AxisWord::Y(target)),

@@ -4,16 +4,18 @@ ghost use Rattle.std.proofs.Common.{rules};
 
 use super::faults::KindFault;
 use super::kind::Atom;
+use super::placed::{around, offset};
 
 #[derive(Clone, Copy, PartialEq, Eq, Debug)]
 pub struct Count {
     pub value: i32,
 }
 
-// the most count, and the code of zero
-const MOST: i32 = 536_870_911;
+// there are so many counts below zero, and as many from zero up
+const HALF: u32 = 536_870_912;
 
-const ZERO: i32 = 1_073_741_824;
+// the code of zero
+const ZERO: u32 = 1_073_741_824;
 
 impl Atom for Count {
     ghost coded = { count_code };
@@ -27,19 +29,15 @@ impl Atom for Count {
     ghost only = { Prim.search rules };
 
     fn code(self) -> Result<u32, KindFault> {
-        let value = self.value;
-        if value < -MOST - 1 || value > MOST {
-            return Err(KindFault::OutOfRange);
-        }
-        Ok((value + ZERO) as u32)
+        around(HALF, ZERO, self.value)
     }
 
     fn read(word: u32) -> Option<Count> {
-        if word < 536_870_912 || word >= 1_610_612_736 {
+        if word < ZERO - HALF || word >= ZERO + HALF {
             return None;
         }
         Some(Count {
-            value: word as i32 - ZERO,
+            value: offset(ZERO, word),
         })
     }
 }

@@ -5,5 +5,6 @@ pub mod axis;
 pub mod count;
 pub mod faults;
 pub mod kind;
+mod placed;
 pub mod shown;
 pub mod values;

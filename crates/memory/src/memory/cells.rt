@@ -13,14 +13,14 @@ use machine::side::Side;
 use semispace::cells::{is_reference, place_of};
 use store::words::Store;
 
-// Refuses register r unless its word refers to a cell.
-fn need_cell(r: usize, word: u32) -> Result<(), MemoryFault>
-    ensures { result ≡ (if is_reference word then Ok tt else Err (NotCell r)) }
+// Refuses unless the word refers to a cell, and names the place that it stands for.
+pub(super) fn need_cell(place: usize, word: u32) -> Result<(), MemoryFault>
+    ensures { result ≡ (if is_reference word then Ok tt else Err (NotCell place)) }
 {
     if is_reference(word) {
         Ok(())
     } else {
-        Err(MemoryFault::NotCell(r))
+        Err(MemoryFault::NotCell(place))
     }
 }
 

@@ -6,11 +6,12 @@ ghost use Rattle.memory.specs.Steps.{next_call, past, SameHolds};
 ghost use Rattle.memory.specs.Tokens.{Held, pass_of};
 
 use super::ListMemory;
+use super::cells::need_cell;
 use crate::token::Token;
 use atom::kind::Atom;
 use machine::faults::MemoryFault;
 use machine::side::Side;
-use semispace::cells::{is_reference, place_of};
+use semispace::cells::place_of;
 use store::words::Store;
 
 impl<S: Store, A: Atom> ListMemory<S, A> {
@@ -24,9 +25,7 @@ impl<S: Store, A: Atom> ListMemory<S, A> {
         if word == 0 {
             return Ok(None);
         }
-        if !is_reference(word) {
-            return Err(MemoryFault::NotCell(n));
-        }
+        need_cell(n, word)?;
         let head = self.space.move_at(place_of(Side::Head, word));
         match A::read(head) {
             Some(atom) => {
