@@ -45,13 +45,11 @@ pub fn place_of(side: Side, word: u32) -> usize
     }
 }
 
+#[tactic(auto, using(std::proofs::lemmas::List::get_or_past))]
 pub(crate) fn word_at<S: Store>(store: &S, place: usize) -> u32
     ensures { result ≡ slice_index (S.words store.now) place }
 {
-    match store.read(place) {
-        Ok(word) => word,
-        Err(_) => 0,
-    }
+    store.read(place).unwrap_or(0)
 }
 
 pub fn put_word<S: Store>(store: &mut S, place: usize, word: u32)

@@ -21,10 +21,7 @@ fn sight<A: Atom>(word: u32) -> Sight<A>
     if is_reference(word) {
         return Sight::Cell;
     }
-    match A::read(word) {
-        Some(atom) => Sight::Atom(atom),
-        None => Sight::Nil,
-    }
+    A::read(word).map_or(Sight::Nil, Sight::Atom)
 }
 
 impl<S: Store, A: Atom> ListMemory<S, A> {
