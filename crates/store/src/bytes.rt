@@ -1,71 +1,53 @@
 // A store over bytes: four a word, most significant first.
-ghost use Rattle.std.specs.Prelude.{◌≡◌, ◌*◌, ◌/◌, ◌<◌, length};
-ghost use Rattle.store.specs.Bytes.{byte_words, word_from, word_put};
+ghost use Rattle.std.specs.Prelude.{◌≡◌};
+ghost use Rattle.store.specs.Bytes.{byte_words};
 
 use super::faults::{StoreFault, inside};
 use super::words::Store;
+use std::marker::Model;
 
-// One to three bytes left over at the end are never touched.
+// The whole words of the bytes. One to three bytes left over at the end are never touched.
 #[derive(Drop)]
 pub struct ByteStore<'a> {
-    bytes: &'a mut [u8],
+    words: &'a mut [[u8; 4]],
 }
 
+impl<'a> Model for ByteStore<'a> {
+    ghost use Rattle.std.specs.Prelude.{ℕ, List, map};
+    ghost use Rattle.std.specs.Int.{from_be_bytes, w32};
+
+    ghost Value = { List ℕ };
+
+    ghost view = { λ s. map (from_be_bytes w32) s.words.now };
+}
+
+#[tactic(auto, using(crate::proofs::FourBytes::words_of_chunks))]
 impl<'a> ByteStore<'a> {
     pub fn new(bytes: &'a mut [u8]) -> ByteStore<'a>
-        ensures answer { byte_words result.bytes.now ≡ byte_words bytes.old }
+        ensures answer { result ≡ byte_words bytes.old }
     {
-        ByteStore { bytes }
-    }
-
-    // How many whole words the bytes make.
-    fn places(&self) -> usize
-        ensures answer { result ≡ length self.now.bytes.now / 4 }
-    {
-        self.bytes.len() / 4
-    }
-
-    fn word_at(&self, place: usize) -> u32
-        requires { place < length self.now.bytes.now / 4 }
-        ensures answer { result ≡ word_from self.now.bytes.now (place * 4) }
-    {
-        let at = place * 4;
-        u32::from_be_bytes([
-            self.bytes[at],
-            self.bytes[at + 1],
-            self.bytes[at + 2],
-            self.bytes[at + 3],
-        ])
-    }
-
-    fn put(&mut self, place: usize, word: u32)
-        requires { place < length self.old.bytes.now / 4 }
-        ensures after { self.new.bytes.now ≡ word_put self.old.bytes.now (place * 4) word }
-    {
-        let [a, b, c, d] = word.to_be_bytes();
-        let at = place * 4;
-        self.bytes[at] = a;
-        self.bytes[at + 1] = b;
-        self.bytes[at + 2] = c;
-        self.bytes[at + 3] = d;
+        let (words, _) = bytes.as_chunks_mut::<4>();
+        ByteStore { words }
     }
 }
 
+#[tactic(auto, using(crate::proofs::FourBytes::set_chunk))]
 impl<'a> Store for ByteStore<'a> {
-    ghost words = { λ s. byte_words s.bytes.now };
+    ghost words = { λ s. s };
 
     fn size(&self) -> usize {
-        self.places()
+        self.words.len()
     }
 
     fn read(&self, place: usize) -> Result<u32, StoreFault> {
-        inside(place, self.size())?;
-        Ok(self.word_at(place))
+        let word = self.words.get(place).ok_or(StoreFault::Outside(place))?;
+        Ok(u32::from_be_bytes(*word))
     }
 
+    // by index, since the check doesn't know what a slice holds after a write through `get_mut`
     fn write(&mut self, place: usize, word: u32) -> Result<(), StoreFault> {
         inside(place, self.size())?;
-        self.put(place, word);
+        self.words[place] = word.to_be_bytes();
         Ok(())
     }
 }
