@@ -1,1 +1,1 @@
-mod Overlaid
+pub mod Overlaid

@@ -1,11 +1,12 @@
 -- Late words over a list: how each place reads, and that keeping a word sets it and sending one down changes nothing.
-use Rattle.std.proofs.Common.{◌≡◌, ℕ, zero, suc, ◌%◌, ◌<◌, ltb, List, [], ◌∷◌, length, get_or, set, Some, None, Option, sym, refl, ap, ◌∙◌, inl, inr, arith}
+use Rattle.std.proofs.Common.{◌≡◌, ℕ, ◌+◌, ◌%◌, ◌<◌, List, [], length, get_or, set, take, replicate, Some, None, Option, sym, refl, ap, ◌∙◌, inl, inr, arith}
+use Rattle.std.specs.Option.{ForSome}
+use Rattle.std.proofs.lemmas.Bool.{cases_eq}
+use Rattle.std.proofs.lemmas.Grind.{common_steps}
 use Rattle.std.proofs.lemmas.List.FromFn.{length-map-range_with_len, get_or-map-range_with_len}
-use Rattle.std.proofs.lemmas.List.{ext_get_or, length-set, get_or-set_same, get_or-set_other}
-use Rattle.std.proofs.lemmas.Bool.{cases_eq, cond_both, eq-eqb, ne_eqb}
-use Rattle.std.proofs.lemmas.Bool.Decides.{nat_tests}
+use Rattle.std.proofs.lemmas.List.{ext_get_or, length-set, get_or-set_other, set_past}
+use Rattle.write_back.specs.Kept.{AllBelow, AllOwn, evicted}
 use Rattle.write_back.specs.Overlay.{overlaid, word_at, word_in, over}
-use Rattle.write_back.specs.Sent.{own_in, sent_down, FreeFor}
 use Rattle.write_back.specs.declared.entries.Late.{Late}
 
 pub length-overlaid : (ws : List ℕ) (entries : List (Option Late)) → length (overlaid ws entries) ≡ length ws
@@ -26,77 +27,92 @@ overlaid_by_words ws xs entries e each =
     let lt : i < length ws = omega (arith, length-overlaid ws entries) in
     get_or-overlaid ws entries i lt ∙ sym (each i lt))
 
-pub overlaid_none : (ws : List ℕ) (entries : List (Option Late)) →
-    ((k : ℕ) → k < 8 → get_or entries k None ≡ None) → overlaid ws entries ≡ ws
-overlaid_none ws entries none = overlaid_by_words ws ws entries refl (λ i h. rw (none (i % 8) (omega arith)) refl)
+get_or-replicate_same : {X : Type 0} (n i : ℕ) (d : X) → get_or (replicate n d) i d ≡ d
+get_or-replicate_same n i d = grind (arith, common_steps)
 
-word_in-kept : (entries : List (Option Late)) (late : Late) (i : ℕ) →
-    late.place % 8 < length entries → FreeFor (get_or entries (late.place % 8) None) late.place → (i ≡ late.place → ⊥) →
-    word_in (get_or (set entries (late.place % 8) (Some late)) (i % 8) None) i ≡ word_in (get_or entries (i % 8) None) i
-word_in-kept entries late i room free ne =
-    elim (cases_eq (i % 8) (late.place % 8)) [
-      | inl e ↦
-          rw (e, get_or-set_same entries (late.place % 8) (Some late) None room, ne_eqb late.place i (λ p. ne (sym p)))
-          (sym (free i ne))
-      | inr d ↦ ap (λ entry. word_in entry i) (get_or-set_other entries (late.place % 8) (i % 8) (Some late) None d)
+pub overlaid_fresh : (ws : List ℕ) (entries : List (Option Late)) → entries ≡ replicate 8 None → overlaid ws entries ≡ ws
+overlaid_fresh ws entries fresh =
+    overlaid_by_words ws ws entries refl
+    (λ i h. rw (fresh, get_or-replicate_same {X = Option Late} 8 (i % 8) None) refl)
+
+pub overlaid_nil : (ws : List ℕ) → overlaid ws [] ≡ ws
+overlaid_nil ws = overlaid_by_words ws ws [] refl (λ i h. refl)
+
+-- the list below once a late word was sent down
+abbrev pub sent : List ℕ → Option Late → List ℕ
+sent ws None = ws
+sent ws (Some late) = set ws late.place late.word
+
+length-sent : (ws : List ℕ) (entry : Option Late) → length (sent ws entry) ≡ length ws
+length-sent ws None = refl
+length-sent ws (Some late) = length-set ws late.place late.word
+
+get_or-sent : (ws : List ℕ) (entry : Option Late) (i : ℕ) →
+    i < length ws → get_or (sent ws entry) i 0 ≡ over (word_in entry i) (get_or ws i 0)
+get_or-sent ws None i h = refl
+get_or-sent ws (Some late) i h = grind (arith, common_steps)
+
+-- a place of another entry
+word_in-own : (entry : Option Late) (k i : ℕ) →
+    ForSome entry (λ late. late.place % 8 ≡ k) → (i % 8 ≡ k → ⊥) → word_in entry i ≡ None
+word_in-own None k i own ne = refl
+word_in-own (Some late) k i own ne = let e = own late refl in grind (arith, common_steps)
+
+word_in-evicted : (entry : Option Late) (place i : ℕ) → (i ≡ place → ⊥) → word_in (evicted entry place) i ≡ word_in entry i
+word_in-evicted None place i ne = refl
+word_in-evicted (Some late) place i ne = grind (arith, common_steps)
+
+pub overlaid_kept : (ws : List ℕ) (entries : List (Option Late)) (late : Late) (old : Option Late) →
+    late.place < length ws → late.place % 8 < length entries → old ≡ evicted (get_or entries (late.place % 8) None) late.place →
+    ForSome old (λ other. other.place % 8 ≡ late.place % 8) →
+    overlaid (sent ws old) (set entries (late.place % 8) (Some late)) ≡ set (overlaid ws entries) late.place late.word
+overlaid_kept ws entries late old h room is own =
+    let k = late.place % 8 in
+    let before = overlaid ws entries in
+    overlaid_by_words (sent ws old) (set before late.place late.word) (set entries k (Some late))
+    (length-set before late.place late.word ∙ length-overlaid ws entries ∙ sym (length-sent ws old))
+    (λ i lt.
+    let inside : i < length ws = omega (arith, length-sent ws old) in
+    rw (get_or-sent ws old i inside)
+    (elim (cases_eq i late.place) [
+      | inl e ↦ grind (arith, common_steps, length-overlaid)
+      | inr ne ↦
+          elim (cases_eq (i % 8) k) [
+            | inl e ↦ rw is (grind (arith, common_steps, get_or-overlaid, word_in-evicted))
+            | inr far ↦ rw (word_in-own old k i own far) (grind (arith, common_steps, get_or-overlaid))
+          ]
+    ]))
+
+pub all_below_kept : (n k : ℕ) (entries : List (Option Late)) (late : Late) →
+    AllBelow n entries → late.place < n → AllBelow n (set entries k (Some late))
+all_below_kept n k entries late below lt =
+    λ j other is.
+    elim (cases_eq j k) [
+      | inl e ↦ let same = ap (λ m. get_or (set entries k (Some late)) m None) (sym e) ∙ is in grind (arith, common_steps)
+      | inr ne ↦ below j other (sym (get_or-set_other entries k j (Some late) None ne) ∙ is)
     ]
 
-pub overlaid_keep : (ws : List ℕ) (entries : List (Option Late)) (late : Late) →
-    late.place < length ws → late.place % 8 < length entries → FreeFor (get_or entries (late.place % 8) None) late.place →
-    overlaid ws (set entries (late.place % 8) (Some late)) ≡ set (overlaid ws entries) late.place late.word
-overlaid_keep ws entries late h room free =
-    let over = overlaid ws entries in
-    let inside : late.place < length over = omega (arith, length-overlaid ws entries) in
-    overlaid_by_words ws (set over late.place late.word) (set entries (late.place % 8) (Some late))
-    (length-set over late.place late.word ∙ length-overlaid ws entries)
+pub overlaid_sent : (ws : List ℕ) (entries : List (Option Late)) (k : ℕ) (entry : Option Late) →
+    get_or entries k None ≡ entry → AllOwn entries → sent (overlaid ws (take k entries)) entry ≡ overlaid ws (take (k + 1) entries)
+overlaid_sent ws entries k entry is own =
+    let before = overlaid ws (take k entries) in
+    sym (overlaid_by_words ws (sent before entry) (take (k + 1) entries)
+    (length-sent before entry ∙ length-overlaid ws (take k entries))
     (λ i lt.
-    elim (cases_eq i late.place) [
-      | inl e ↦
-          rw (e, get_or-set_same over late.place late.word 0 inside)
-          (rw (get_or-set_same entries (late.place % 8) (Some late) None room, eq-eqb late.place late.place refl) refl)
-      | inr ne ↦
-          rw (get_or-set_other over late.place i late.word 0 ne, word_in-kept entries late i room free ne)
-          (get_or-overlaid ws entries i lt)
-    ])
+    let inside : i < length before = omega (arith, length-overlaid ws (take k entries)) in
+    rw (get_or-sent before entry i inside, get_or-overlaid ws (take k entries) i lt, ← is)
+    (elim (cases_eq (i % 8) k) [
+      | inl e ↦ grind (arith, common_steps)
+      | inr ne ↦ rw (word_in-own (get_or entries k None) k i (own k) ne) (grind (arith, common_steps))
+    ])))
 
-get_or_sent_own : (ws : List ℕ) (entry : Option Late) (i : ℕ) →
-    i < length ws → get_or (sent_down ws (own_in entry (i % 8))) i 0 ≡ over (word_in entry i) (get_or ws i 0)
-get_or_sent_own ws None i h = refl
-get_or_sent_own ws (Some late) i h = grind (arith, nat_tests, get_or-set_same, get_or-set_other)
+pub sent_some : (ws : List ℕ) (entries : List (Option Late)) (k : ℕ) (late : Late) →
+    get_or entries k None ≡ Some late → AllOwn entries →
+    set (overlaid ws (take k entries)) late.place late.word ≡ overlaid ws (take (k + 1) entries)
+sent_some ws entries k late is own = overlaid_sent ws entries k (Some late) is own
 
-get_or_sent_other : (ws : List ℕ) (entry : Option Late) (k i : ℕ) →
-    (i % 8 ≡ k → ⊥) → get_or (sent_down ws (own_in entry k)) i 0 ≡ get_or ws i 0
-get_or_sent_other ws None k i ne = refl
-get_or_sent_other ws (Some late) k i ne = grind (arith, nat_tests, get_or-set_same, get_or-set_other)
+pub sent_none : (ws : List ℕ) (entries : List (Option Late)) (k : ℕ) →
+    get_or entries k None ≡ None → AllOwn entries → overlaid ws (take k entries) ≡ overlaid ws (take (k + 1) entries)
+sent_none ws entries k is own = overlaid_sent ws entries k None is own
 
-length_sent : (ws : List ℕ) (entry : Option Late) → length (sent_down ws entry) ≡ length ws
-length_sent ws None = refl
-length_sent ws (Some late) =
-    cond_both (ltb late.place (length ws)) (set ws late.place late.word) ws (λ xs. length xs ≡ length ws)
-    (λ e. length-set ws late.place late.word)
-    (λ e. refl)
-
-pub get_or-set_none : (entries : List (Option Late)) (k : ℕ) → get_or (set entries k None) k None ≡ None
-get_or-set_none [] k = refl
-get_or-set_none (entry ∷ entries) zero = refl
-get_or-set_none (entry ∷ entries) (suc k) = get_or-set_none entries k
-
-word_at_sent : (ws : List ℕ) (entries : List (Option Late)) (k i : ℕ) →
-    i < length ws → word_at (sent_down ws (own_in (get_or entries k None) k)) (set entries k None) i ≡ word_at ws entries i
-word_at_sent ws entries k i h =
-    elim (cases_eq (i % 8) k) [
-      | inl e ↦ rw (← e) (rw (get_or-set_none entries (i % 8)) (get_or_sent_own ws (get_or entries (i % 8) None) i h))
-      | inr ne ↦
-          rw (get_or-set_other entries k (i % 8) None None ne, get_or_sent_other ws (get_or entries k None) k i ne) refl
-    ]
-
-pub overlaid_sent : (ws : List ℕ) (entries : List (Option Late)) (k : ℕ) →
-    overlaid (sent_down ws (own_in (get_or entries k None) k)) (set entries k None) ≡ overlaid ws entries
-overlaid_sent ws entries k =
-    let below = sent_down ws (own_in (get_or entries k None) k) in
-    let same = length_sent ws (own_in (get_or entries k None) k) in
-    overlaid_by_words below (overlaid ws entries) (set entries k None)
-    (length-overlaid ws entries ∙ sym same)
-    (λ i lt.
-    let h : i < length ws = omega (arith, same) in
-    get_or-overlaid ws entries i h ∙ sym (word_at_sent ws entries k i h))
+pub ruleset layers = (length-overlaid, get_or-overlaid, overlaid_fresh, overlaid_nil, sent_some, sent_none, set_past)

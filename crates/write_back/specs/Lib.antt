@@ -1,2 +1,2 @@
 pub mod Overlay
-pub mod Sent
+pub mod Kept

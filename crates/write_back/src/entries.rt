@@ -1,7 +1,11 @@
 // The table of a layer: eight entries, each with one late word or none. Place i belongs to entry i mod 8.
 ghost use Rattle.std.specs.Prelude.{◌≡◌, ◌%◌, ◌<◌, length, replicate, Some, None, slice_index_or, slice_set};
-ghost use Rattle.write_back.specs.Overlay.{word_in};
-ghost use Rattle.write_back.specs.Sent.{own_in};
+ghost use Rattle.std.specs.Option.{ForSome};
+ghost use Rattle.write_back.specs.Overlay.{overlaid, word_in};
+ghost use Rattle.write_back.specs.Kept.{evicted};
+
+use std::marker::Model;
+use store::words::Store;
 
 // A word that was written and has not been sent down yet.
 #[derive(Clone, Copy)]
@@ -15,43 +19,53 @@ pub struct Entries {
     late: [Option<Late>; 8],
 }
 
+impl Model for Entries {
+    ghost use Rattle.std.specs.Prelude.{List, Option};
+    ghost use Rattle.write_back.specs.declared.entries.Late.{Late};
+    ghost use Rattle.write_back.specs.Kept.{AllOwn};
+
+    ghost Value = { List (Option Late) };
+
+    ghost view = { λ e. e.late };
+
+    ghost invariant = { λ e. AllOwn e.late };
+}
+
 impl Entries {
     pub fn none() -> Entries
-        ensures answer { result.late ≡ replicate 8 None }
+        ensures answer { result ≡ replicate 8 None }
     {
         Entries { late: [None; 8] }
     }
 
     // The late word of a place, if its entry has that place.
     pub fn word(&self, place: usize) -> Option<u32>
-        ensures answer { result ≡ word_in (slice_index_or self.now.late (place % 8) None) place }
+        ensures answer { result ≡ word_in (slice_index_or self.now (place % 8) None) place }
     {
         let late = self.late[place % 8]?;
-        if late.place == place {
-            Some(late.word)
-        } else {
-            None
-        }
+        (late.place == place).then_some(late.word)
     }
 
-    // Takes out what the entry of a place has. Only a place that is the entry's own counts.
-    pub fn take(&mut self, place: usize) -> Option<Late>
-        ensures answer { result ≡ own_in (slice_index_or self.old.late (place % 8) None) (place % 8) }
-        ensures after { self.new.late ≡ slice_set self.old.late (place % 8) None }
+    // Keeps a word in the entry of its place, and gives out another place's word that was there.
+    pub fn keep(&mut self, late: Late) -> Option<Late>
+        ensures answer { result ≡ evicted (slice_index_or self.old (late.place % 8) None) late.place }
+        ensures own { ForSome result (λ old. old.place % 8 ≡ late.place % 8) }
+        ensures room { late.place % 8 < length self.old }
+        ensures after { self.new ≡ slice_set self.old (late.place % 8) (Some late) }
     {
-        let taken = self.late[place % 8];
-        self.late[place % 8] = None;
-        match taken {
-            Some(late) if late.place % 8 == place % 8 => Some(late),
-            _ => None,
-        }
+        let old = self.late[late.place % 8].replace(late)?;
+        (old.place != late.place).then_some(old)
     }
 
-    // Keeps a word in the entry of its place, over whatever the entry had.
-    pub fn keep(&mut self, late: Late)
-        ensures room { late.place % 8 < length self.old.late }
-        ensures after { self.new.late ≡ slice_set self.old.late (late.place % 8) (Some late) }
+    // Sends every late word down. What the store below refuses had its place outside, and meant nothing.
+    #[tactic(auto, using(crate::proofs::Overlaid::layers))]
+    pub fn send_down<S: Store>(self, below: &mut S)
+        ensures after { S.Store.words below.new ≡ overlaid (S.Store.words below.old) self }
     {
-        self.late[late.place % 8] = Some(late);
+        for entry in self.late {
+            if let Some(late) = entry {
+                let _ = below.write(late.place, late.word);
+            }
+        }
     }
 }

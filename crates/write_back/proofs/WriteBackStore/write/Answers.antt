@@ -1,24 +1,20 @@
--- A word kept in its entry, where no other place has a word, is set in the list; past the end nothing is.
-use Rattle.std.proofs.Common.{◌<◌, length, set, ap, ◌∙◌, rules}
-use Rattle.std.proofs.lemmas.List.{set_past}
+-- A word kept in its entry is set in the list, and the other place's word that leaves goes down.
+use Rattle.std.proofs.Common.{length-set, Some, None, rules}
+use Rattle.write_back.proofs.Overlaid.{all_below_kept, overlaid_kept}
 use Rattle.write_back.proofs.WriteBackStore.write.Goals as goal
-use Rattle.write_back.proofs.Overlaid.{length-overlaid, overlaid_keep}
-use Rattle.write_back.specs.declared.entries.Late.{Late}
 
-pub returns-in_err-inside : goal.returns-in_err-inside
-returns-in_err-inside g c = search (rules, set_past)
+pub invariant_of-self : goal.invariant_of-self
+invariant_of-self g c = rw (c.keep.ensures.after, c.write.ensures.after, length-set) (all_below_kept _ _ _ _ c.self.invariant (search rules))
 
-pub returns : goal.returns
-returns g c =
-    let below = g.S.Store.words c.make_room.new.self.below in
-    let entries = c.make_room.new.self.entries.late in
-    let late : Late = record { place = c.args.place; word = c.args.word } in
-    let same = c.make_room.ensures.after in
-    let lt : c.args.place < length below = search (rules, length-overlaid below entries, ap length same) in
-    record {
-      answer = search rules;
-      after =
-          simp c.keep.ensures.after
-          (overlaid_keep below entries late lt c.keep.ensures.room c.make_room.ensures.room
-          ∙ ap (λ ws. set ws c.args.place c.args.word) same);
-    }
+pub invariant_of-self-in-None : goal.invariant_of-self-in-None
+invariant_of-self-in-None g c = rw c.keep.ensures.after (all_below_kept _ _ _ _ c.self.invariant (search rules))
+
+pub returns-in-Some-clause-after : goal.returns-in-Some-clause-after
+returns-in-Some-clause-after g c =
+    rw (c.keep.ensures.after, c.write.ensures.after, ← c.self.view_is)
+    (overlaid_kept _ _ _ (Some c.in-Some.other) (search rules) c.keep.ensures.room c.in-Some.ensures.answer c.in-Some.ensures.own)
+
+pub returns-in-None-clause-after : goal.returns-in-None-clause-after
+returns-in-None-clause-after g c =
+    rw (c.keep.ensures.after, ← c.self.view_is)
+    (overlaid_kept _ _ _ None (search rules) c.keep.ensures.room c.in-None.ensures.answer c.in-None.ensures.own)
