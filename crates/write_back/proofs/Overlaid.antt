@@ -92,7 +92,7 @@ all_below_kept n k entries late below lt =
       | inr ne ↦ below j other (sym (get_or-set_other entries k j (Some late) None ne) ∙ is)
     ]
 
-pub overlaid_sent : (ws : List ℕ) (entries : List (Option Late)) (k : ℕ) (entry : Option Late) →
+overlaid_sent : (ws : List ℕ) (entries : List (Option Late)) (k : ℕ) (entry : Option Late) →
     get_or entries k None ≡ entry → AllOwn entries → sent (overlaid ws (take k entries)) entry ≡ overlaid ws (take (k + 1) entries)
 overlaid_sent ws entries k entry is own =
     let before = overlaid ws (take k entries) in

@@ -62,6 +62,7 @@ impl Entries {
     pub fn send_down<S: Store>(self, below: &mut S)
         ensures after { S.Store.words below.new ≡ overlaid (S.Store.words below.old) self }
     {
+        // not by `flatten`: there a proof sees which words came, and not from which entries
         for entry in self.late {
             if let Some(late) = entry {
                 let _ = below.write(late.place, late.word);
