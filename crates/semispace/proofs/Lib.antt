@@ -1,3 +1,4 @@
 mod Alongs
 mod Moves
+mod Registers
 mod Scans

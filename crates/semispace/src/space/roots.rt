@@ -17,12 +17,10 @@ const HOLDS: usize = 8;
 fn check_registers(registers: &[usize]) -> Result<(), MemoryFault>
     ensures { result ≡ known registers.now }
 {
-    for r in registers {
-        if *r >= REGISTERS {
-            return Err(MemoryFault::NoRegister(*r));
-        }
+    match registers.iter().find(|r| **r >= REGISTERS) {
+        Some(r) => Err(MemoryFault::NoRegister(*r)),
+        None => Ok(()),
     }
-    Ok(())
 }
 
 impl<S: Store> Semispace<S> {
