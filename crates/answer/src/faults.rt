@@ -6,6 +6,7 @@ ghost use Rattle.std.specs.Prelude.{◌≡◌, Some};
 use fault::{Layer, Refusal, Report};
 use machine::faults::MemoryFault;
 use std::fmt;
+use words::misread::Misread;
 
 #[derive(Clone, Copy, PartialEq, Eq, Debug)]
 pub enum ConsoleFault {
@@ -20,6 +21,14 @@ impl From<MemoryFault> for ConsoleFault {
 
     fn from(whole: MemoryFault) -> ConsoleFault {
         ConsoleFault::Memory(whole)
+    }
+}
+
+impl From<Misread> for ConsoleFault {
+    ghost from_gives = { λ m f. f ≡ fault.Column m.column };
+
+    fn from(misread: Misread) -> ConsoleFault {
+        ConsoleFault::Column(misread.column)
     }
 }
 

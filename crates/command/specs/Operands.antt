@@ -6,6 +6,8 @@ use Rattle.verb.specs.Verbs.{verb_of}
 use Rattle.verb.specs.declared.Verb.{Verb}
 use Rattle.words.specs.Numbers.{number_of}
 use Rattle.words.specs.Tokens.{Sort, number, atom, name}
+use Rattle.words.specs.Unread.{Unread}
+use Rattle.words.specs.declared.misread.Misread.{Misread}
 
 -- what a word of each sort says
 abbrev pub as_verb : Sort → Option Verb
@@ -23,43 +25,49 @@ as_atom (atom letter w) = atom_of letter w
 as_atom (number w) = None
 as_atom (name w) = None
 
--- a value and the words left, or a column
+-- a line that is not understood at a column
+abbrev pub misread : ℕ → Misread
+misread column = record { column = column }
+
+-- a value and what is left of the line, or a column
 abbrev pub Taken : Type 0 → Type 0
-Taken V = Result (V × List (ℕ × Sort)) ℕ
+Taken V = Result (V × Unread) Misread
 
-abbrev pub understood : {V : Type 0} → Option V → ℕ → List (ℕ × Sort) → Taken V
-understood (Some v) column ws = Ok (v, ws)
-understood None column ws = Err column
+abbrev pub understood : {V : Type 0} → Option V → ℕ → Unread → Taken V
+understood (Some v) column left = Ok (v, left)
+understood None column left = Err (misread column)
 
--- the next word; `end` is the column of a missing one
-abbrev pub take : {V : Type 0} → (Sort → Option V) → ℕ → List (ℕ × Sort) → Taken V
-take says end [] = Err end
-take says end (w ∷ ws) = understood (says w.1) w.0 ws
+abbrev pub take_from : {V : Type 0} → (Sort → Option V) → ℕ → List (ℕ × Sort) → Taken V
+take_from says end [] = Err (misread end)
+take_from says end (w ∷ ws) = understood (says w.1) w.0 (record { words = ws; end = end })
 
-abbrev pub and_then : {V W : Type 0} → Taken V → (V → List (ℕ × Sort) → Result W ℕ) → Result W ℕ
+-- the next word, or the end's column where none is left
+abbrev pub take : {V : Type 0} → (Sort → Option V) → Unread → Taken V
+take says line = take_from says line.end line.words
+
+abbrev pub and_then : {V W : Type 0} → Taken V → (V → Unread → Result W Misread) → Result W Misread
 and_then (Ok p) go = go p.0 p.1
-and_then (Err column) go = Err column
+and_then (Err e) go = Err e
+
+abbrev pub alone_among : {V : Type 0} → V → List (ℕ × Sort) → Result V Misread
+alone_among v [] = Ok v
+alone_among v (w ∷ ws) = Err (misread w.0)
 
 -- a value, if no word is left over
-abbrev pub alone : {V : Type 0} → V → List (ℕ × Sort) → Result V ℕ
-alone v [] = Ok v
-alone v (w ∷ ws) = Err w.0
+abbrev pub alone : {V : Type 0} → V → Unread → Result V Misread
+alone v line = alone_among v line.words
 
--- the operands of a command, with nothing after them
-abbrev pub one_of : ℕ → List (ℕ × Sort) → Result ℕ ℕ
-one_of end ws = and_then (take as_number end ws) alone
+-- one operand, two or three, and what is made of them
+abbrev pub one_of : {A C : Type 0} → (Sort → Option A) → (A → C) → Unread → Taken C
+one_of says made line = and_then (take says line) (λ a line. Ok (made a, line))
 
-abbrev pub two_of : ℕ → List (ℕ × Sort) → Result (ℕ × ℕ) ℕ
-two_of end ws = and_then (take as_number end ws) (λ a ws. and_then (take as_number end ws) (λ b ws. alone (a, b) ws))
+abbrev pub two_of : {A B C : Type 0} → (Sort → Option A) → (Sort → Option B) → (A → B → C) → Unread → Taken C
+two_of says_first says made line = and_then (take says_first line) (λ a line. one_of says (made a) line)
 
-abbrev pub three_of : ℕ → List (ℕ × Sort) → Result (ℕ × ℕ × ℕ) ℕ
-three_of end ws =
-    and_then (take as_number end ws) (λ a ws. and_then (take as_number end ws) (λ b ws. and_then (take as_number end ws) (λ c ws. alone (a, b, c) ws)))
+abbrev pub three_of : {A B C D : Type 0} → (Sort → Option A) → (Sort → Option B) → (Sort → Option C) → (A → B → C → D) → Unread → Taken D
+three_of says_first says_second says made line = and_then (take says_first line) (λ a line. two_of says_second says (made a) line)
 
-abbrev pub setting_of : ℕ → List (ℕ × Sort) → Result (ℕ × AxisWord) ℕ
-setting_of end ws = and_then (take as_number end ws) (λ d ws. and_then (take as_atom end ws) (λ atom ws. alone (d, atom) ws))
-
--- what a reader answered, with the words that it has left
-abbrev pub took : {V : Type 0} → Result V ℕ → List (ℕ × Sort) → Taken V
-took (Ok v) ws = Ok (v, ws)
-took (Err column) ws = Err column
+-- what was read, with what is left of the line
+abbrev pub took : {V : Type 0} → Result V Misread → Unread → Taken V
+took (Ok v) left = Ok (v, left)
+took (Err e) left = Err e

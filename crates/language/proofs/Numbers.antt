@@ -1,5 +1,5 @@
 -- Numbers and atoms are read from their own text.
-use Rattle.std.proofs.Common.{◌≡◌, ℕ, suc, ◌+◌, ◌-◌, ◌*◌, ◌<◌, ◌≤◌, Bool, true, false, ◌&&◌, eqb, leb, List, [], ◌∷◌, length, get_or, ℤ, pos, negsuc, neg_ℤ, Some, decimal, refl, ap, ◌∙◌, arith, rules}
+use Rattle.std.proofs.Common.{◌≡◌, ℕ, suc, ◌+◌, ◌-◌, ◌*◌, ◌<◌, ◌≤◌, Bool, true, false, ◌&&◌, eqb, leb, List, [], ◌∷◌, length, get_or, ℤ, pos, negsuc, neg_ℤ, Some, Option, decimal, refl, ap, ◌∙◌, arith, rules}
 use Rattle.atom.specs.Shown.{axis_text}
 use Rattle.atom.specs.declared.axis.AxisWord.TheVariants.{X, Y, Z, D, T}
 use Rattle.atom.specs.declared.axis.AxisWord.{AxisWord}
@@ -13,12 +13,17 @@ use Rattle.std.specs.Char.{is_ascii_digit}
 use Rattle.std.specs.Fmt.{signed_decimal}
 use Rattle.std.specs.Str.{all_ascii_digits}
 use Rattle.words.specs.Numbers.{is_digit, number_of, read_on}
-use Rattle.words.specs.Tokens.{number, begins, sort_of}
+use Rattle.words.specs.Tokens.{Sort, number, begins, sort_of}
 
 -- a word that may stand in a command's text
 pub record Operand (w : List ℕ) : Type 0 where
   pub whole : Spaceless w
   pub small : length w ≤ 10
+
+-- such a word, and the value that it says
+pub record Says {V : Type 0} (says : Sort → Option V) (w : List ℕ) (v : V) : Type 0 where
+  pub written : Operand w
+  pub said : says (sort_of w) ≡ Some v
 
 and_apart : (a b : Bool) → (a && b) ≡ true → (a ≡ true) × (b ≡ true)
 and_apart true b h = (refl, h)
@@ -73,15 +78,19 @@ module _ (n : ℕ) (short : Short n) where
   few : length (decimal n) ≤ 8
   few = length-decimal-le 8 n (omega arith) (omega arith) (omega arith)
 
-  pub number_returns : number_of (decimal n) ≡ Some n
+  number_returns : number_of (decimal n) ≡ Some n
   number_returns =
       within_eight (decimal n) some few ∙ reads_digits 0 (decimal n) digits ∙ ap Some (digits_value-decimal own n (omega arith))
 
-  pub number_word : as_number (sort_of (decimal n)) ≡ Some n
-  number_word = ap as_number (number_sort (decimal n) some (first_digit (decimal n) digits some)) ∙ number_returns
-
-  pub number_operand : Operand (decimal n)
+  number_operand : Operand (decimal n)
   number_operand = record { whole = digits_have_no_space (decimal n) digits; small = omega (arith, few) }
+
+  pub number_says : Says as_number (decimal n) n
+  number_says =
+      record {
+        written = number_operand;
+        said = ap as_number (number_sort (decimal n) some (first_digit (decimal n) digits some)) ∙ number_returns;
+      }
 
   not_a_minus : begins (decimal n) 45 ≡ false
   not_a_minus =
@@ -108,16 +117,19 @@ signed_small (negsuc n) short = let k : length (decimal (suc n)) ≤ 8 = few (su
 some_first : (w : List ℕ) → leb 1 (suc (length w)) ≡ true
 some_first w = grind (arith, nat_tests)
 
-pub atom_word : (a : AxisWord) → ShortAtom a → as_atom (sort_of (axis_text a)) ≡ Some a
+atom_word : (a : AxisWord) → ShortAtom a → as_atom (sort_of (axis_text a)) ≡ Some a
 atom_word (X target) short = rw (some_first (signed_decimal target)) (ap (mapped X) (signed_returns target short))
 atom_word (Y target) short = rw (some_first (signed_decimal target)) (ap (mapped Y) (signed_returns target short))
 atom_word (Z target) short = rw (some_first (signed_decimal target)) (ap (mapped Z) (signed_returns target short))
 atom_word (D milliseconds) short = rw (some_first (decimal milliseconds)) (ap (mapped D) (number_returns milliseconds short))
 atom_word (T tool) short = rw (some_first (decimal tool)) (ap (mapped T) (number_returns tool short))
 
-pub atom_operand : (a : AxisWord) → ShortAtom a → Operand (axis_text a)
+atom_operand : (a : AxisWord) → ShortAtom a → Operand (axis_text a)
 atom_operand (X target) short = record { whole = signed_spaceless target short; small = omega (arith, signed_small target short) }
 atom_operand (Y target) short = record { whole = signed_spaceless target short; small = omega (arith, signed_small target short) }
 atom_operand (Z target) short = record { whole = signed_spaceless target short; small = omega (arith, signed_small target short) }
 atom_operand (D milliseconds) short = record { whole = (number_operand milliseconds short).whole; small = omega (arith, few milliseconds short) }
 atom_operand (T tool) short = record { whole = (number_operand tool short).whole; small = omega (arith, few tool short) }
+
+pub atom_says : (a : AxisWord) → ShortAtom a → Says as_atom (axis_text a) a
+atom_says a short = record { written = atom_operand a short; said = atom_word a short }

@@ -12,6 +12,7 @@ use Rattle.machine.specs.Calls.{Call, open_call, set_call, cons_call, fetch_call
 use Rattle.machine.specs.Machine.{Machine}
 use Rattle.machine.specs.declared.faults.MemoryFault.{MemoryFault}
 use Rattle.machine.specs.declared.side.Side.TheVariants.{Head, Tail}
+use Rattle.words.specs.declared.misread.Misread.{Misread}
 
 -- a result, as the console gives it
 abbrev pub given : {R : Type 0} → (R → Answer) → Result R MemoryFault → Result Answer MemoryFault
@@ -44,9 +45,9 @@ abbrev pub told : Result Answer MemoryFault → Result Answer ConsoleFault
 told (Ok answer) = Ok answer
 told (Err fault) = Err (Memory fault)
 
-abbrev pub reaction_to : Machine → Result Command ℕ → Reaction
+abbrev pub reaction_to : Machine → Result Command Misread → Reaction
 reaction_to m (Ok command) = record { after = (obeyed m command).after; answer = told (obeyed m command).answer }
-reaction_to m (Err column) = record { after = m; answer = Err (Column column) }
+reaction_to m (Err e) = record { after = m; answer = Err (Column e.column) }
 
 -- a line that is not understood changes nothing
 abbrev pub reaction : Machine → List ℕ → Reaction

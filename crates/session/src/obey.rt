@@ -19,8 +19,7 @@ const NUMBER: u32 = 1;
 fn done(res: Result<(), MemoryFault>) -> Result<Answer, MemoryFault>
     ensures answer { result ≡ given (λ _. answered.Done) res }
 {
-    res?;
-    Ok(Answer::Done)
+    res.map(|()| Answer::Done)
 }
 
 pub fn obey<S: Store>(
@@ -40,8 +39,8 @@ pub fn obey<S: Store>(
         Command::Rplacd(r, v) => done(memory.rplacd(r, v)),
         Command::Load(d, r) => done(memory.load(d, r)),
         Command::Clear(d) => done(memory.clear(d)),
-        Command::Look(r) => Ok(Answer::Shown(memory.look(r)?)),
-        Command::Same(a, b) => Ok(Answer::Equal(memory.same(a, b)?)),
+        Command::Look(r) => memory.look(r).map(Answer::Shown),
+        Command::Same(a, b) => memory.same(a, b).map(Answer::Equal),
     }
 }
 
@@ -53,8 +52,5 @@ pub fn respond<S: Store>(
     ensures answer { result ≡ (reaction (machine S.words memory.old) line.now).answer }
     ensures after { machine S.words memory.new ≡ (reaction (machine S.words memory.old) line.now).after }
 {
-    match parse(line) {
-        Ok(command) => Ok(obey(memory, command)?),
-        Err(column) => Err(ConsoleFault::Column(column)),
-    }
+    Ok(obey(memory, parse(line)?)?)
 }

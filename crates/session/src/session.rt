@@ -10,7 +10,7 @@ use atom::axis::AxisWord;
 use memory::memory::ListMemory;
 use std::alloc::{AllocError, Global};
 use store::words::Store;
-use words::piece::first_piece;
+use words::lines::Lines;
 
 // Fails only for want of memory to write the transcript in.
 pub fn session<S: Store>(
@@ -22,17 +22,12 @@ pub fn session<S: Store>(
     ensures after { OnOk result (machine S.words memory.new ≡ machine_after (machine S.words memory.old) (lines_of text.now)) }
 {
     let mut out = String::new(heap);
-    let mut from = 0;
-    let mut number = 1;
-    while from < text.len() {
-        let line = first_piece(text.split_at(from).1, b'\n');
+    for (index, line) in Lines::new(text).enumerate() {
         let reply = Reply {
-            line: number,
+            line: index + 1,
             outcome: respond(memory, line),
         };
         out.push_str(format!(in heap; "{reply}\n")?.as_str())?;
-        number += 1;
-        from += line.len() + 1;
     }
     Ok(out)
 }

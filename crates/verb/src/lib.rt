@@ -1,8 +1,9 @@
 // The command words of the console.
 #![tactic(auto)]
 
-ghost use Rattle.verb.specs.Verbs.{verb_of};
 ghost use Rattle.std.specs.Prelude.{◌≡◌};
+ghost use Rattle.std.specs.Result.{result_ok};
+ghost use Rattle.verb.specs.Verbs.{verb_of};
 
 #[derive(Clone, Copy)]
 pub enum Verb {
@@ -19,21 +20,29 @@ pub enum Verb {
     Same,
 }
 
-pub fn read_verb(word: &[u8]) -> Option<Verb>
-    ensures answer { result ≡ verb_of word.now }
-{
-    match word {
-        b"open" => Some(Verb::Open),
-        b"set" => Some(Verb::Set),
-        b"cons" => Some(Verb::Cons),
-        b"car" => Some(Verb::Car),
-        b"cdr" => Some(Verb::Cdr),
-        b"rplaca" => Some(Verb::Rplaca),
-        b"rplacd" => Some(Verb::Rplacd),
-        b"load" => Some(Verb::Load),
-        b"clear" => Some(Verb::Clear),
-        b"look" => Some(Verb::Look),
-        b"same" => Some(Verb::Same),
-        _ => None,
+// A word that is no command word.
+#[derive(Clone, Copy, PartialEq, Eq, Debug)]
+pub struct NoVerb;
+
+impl<'a> TryFrom<&'a [u8]> for Verb {
+    type Error = NoVerb;
+
+    ghost try_from_gives = { λ word res. result_ok res ≡ verb_of word.now };
+
+    fn try_from(word: &'a [u8]) -> Result<Self, NoVerb> {
+        match word {
+            b"open" => Ok(Verb::Open),
+            b"set" => Ok(Verb::Set),
+            b"cons" => Ok(Verb::Cons),
+            b"car" => Ok(Verb::Car),
+            b"cdr" => Ok(Verb::Cdr),
+            b"rplaca" => Ok(Verb::Rplaca),
+            b"rplacd" => Ok(Verb::Rplacd),
+            b"load" => Ok(Verb::Load),
+            b"clear" => Ok(Verb::Clear),
+            b"look" => Ok(Verb::Look),
+            b"same" => Ok(Verb::Same),
+            _ => Err(NoVerb),
+        }
     }
 }

@@ -1,39 +1,26 @@
--- The next word, and those that a reader has left after it.
-use Rattle.std.proofs.Common.{◌≡◌, ℕ, suc, ◌+◌, ◌-◌, ◌<◌, ◌≤◌, List, [], ◌∷◌, length, take, drop, sym, refl, ap, ◌∙◌, inl, inr, arith}
-use Rattle.std.proofs.lemmas.List.{drop-drop, length-drop, length-take-le, take_all}
+-- The next word of a line, and those that are left after it.
+use Rattle.std.proofs.Common.{◌≡◌, ℕ, ◌+◌, ◌-◌, ◌<◌, List, ◌∷◌, length, take, drop, Some, ltb, true, false, refl, ap, inl, inr, arith}
 use Rattle.std.proofs.lemmas.Bool.{cases_lt}
 use Rattle.std.proofs.lemmas.Bool.Decides.{nat_tests}
-use Rattle.words.proofs.Pieces.{first_piece, last_word}
-use Rattle.words.specs.Pieces.{before, words_of}
-use Rattle.words.specs.Reading.{placed, placed_from}
+use Rattle.std.proofs.lemmas.List.{length-drop, length-take-le}
+use Rattle.words.proofs.Pieces.{words_cut}
+use Rattle.words.specs.Pieces.{before, beyond, words_of}
 use Rattle.words.specs.Tokens.{sort_of}
+use Rattle.words.specs.Unread.{placed, words_in}
 
-module _ (line : List ℕ) (from : ℕ) where
-  pub words_up_to_the_end : from ≤ length line → placed_from from line ≡ placed (from + 1) (words_of (drop from line))
-  words_up_to_the_end within = grind (arith, nat_tests)
-
-  pub none_past_the_end : length line < from → placed_from from line ≡ []
-  none_past_the_end past = grind (arith, nat_tests)
-
--- at or before the end there is a word, and the others follow it one space on
-pub next_word : (line : List ℕ) (from : ℕ) → from ≤ length line
-    → (w : List ℕ) → w ≡ take (before 32 (drop from line)) (drop from line)
-    → placed_from from line ≡ (from + 1, sort_of w) ∷ placed_from (from + 1 + length w) line
+pub next_word : (end : ℕ) (text : List ℕ) → length text < end
+    → words_in end (Some text) ≡ (end - length text, sort_of (take (before 32 text) text)) ∷ words_in end (beyond 32 text)
 unfolding placed
-next_word line from within w e =
-    let here : List ℕ = drop from line in
-    let n : ℕ = before 32 here in
-    let long : length here ≡ length line - from = length-drop from line in
-    elim (cases_lt n (length here)) [
+next_word end text within =
+    let n : ℕ = before 32 text in
+    rw (words_cut text) (ap (λ ws. (end - length text, sort_of (take n text)) ∷ ws) (
+    elim (cases_lt n (length text)) [
       | inl more ↦
-          let size : length w ≡ n = ap length e ∙ length-take-le n here (omega arith) in
-          let place : from + suc n ≡ from + 1 + length w = omega arith in
-          let after : drop (suc n) here ≡ drop (from + 1 + length w) line = drop-drop (suc n) from line ∙ ap (λ k. drop k line) place in
-          let cut : words_of here ≡ w ∷ words_of (drop (from + 1 + length w) line) = first_piece ([] ∷ []) 32 here more ∙ rw (sym e, after) refl in
-          words_up_to_the_end line from within ∙ rw cut (ap (λ ws. (from + 1, sort_of w) ∷ ws) (sym (words_up_to_the_end line (from + 1 + length w) (omega arith))))
+          let test : ltb n (length text) ≡ true = grind (arith, nat_tests) in
+          let place : end - length text + length (take n text) + 1 ≡ end - length (drop (n + 1) text) =
+          omega (arith, length-drop (n + 1) text, length-take-le n text (omega arith)) in
+          rw test (ap (λ column. placed column (words_of (drop (n + 1) text))) place)
       | inr none ↦
-          let whole : w ≡ here = e ∙ take_all n here none in
-          let size : length w ≡ length here = ap length whole in
-          let cut : words_of here ≡ w ∷ [] = last_word here none ∙ ap (λ v. v ∷ []) (sym whole) in
-          words_up_to_the_end line from within ∙ rw cut (ap (λ ws. (from + 1, sort_of w) ∷ ws) (sym (none_past_the_end line (from + 1 + length w) (omega arith))))
-    ]
+          let test : ltb n (length text) ≡ false = grind (arith, nat_tests) in
+          rw test refl
+    ]))

@@ -1,10 +1,14 @@
 -- A text cut at every byte of one value.
-use Rattle.std.specs.Prelude.{ℕ, cond, not, List, [], ◌∷◌, ◌==◌}
+use Rattle.std.specs.Prelude.{ℕ, ◌+◌, cond, not, List, [], ◌∷◌, length, drop, Some, None, Option, ◌==◌, nat_lt}
 use Rattle.std.specs.List.{prefix_len}
 
 -- how many bytes stand before the first `end`
 abbrev pub before : ℕ → List ℕ → ℕ
 before end bs = prefix_len (λ b. not (b == end)) bs
+
+-- what stands after the first `end`, if there is one
+abbrev pub beyond : ℕ → List ℕ → Option (List ℕ)
+beyond end bs = cond (nat_lt (before end bs) (length bs)) (Some (drop (before end bs + 1) bs)) None
 
 -- a byte put before the first piece
 abbrev pub onto : ℕ → List (List ℕ) → List (List ℕ)

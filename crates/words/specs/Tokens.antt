@@ -1,10 +1,20 @@
 -- What a word is, by its first byte.
-use Rattle.std.specs.Prelude.{ℕ, Bool, cond, ◌&&◌, List, length, drop, ◌==◌, nat_le, slice_index}
+use Rattle.std.specs.Prelude.{ℕ, Bool, cond, ◌&&◌, List, length, drop, Some, None, Option, ◌==◌, nat_le, slice_index}
 use Rattle.words.specs.Numbers.{is_digit}
 use Rattle.words.specs.declared.token.Letter.TheVariants.{X, Y, Z, D, T}
 use Rattle.words.specs.declared.token.Letter.{Letter}
 use Rattle.words.specs.declared.token.Token.TheVariants as t
 use Rattle.words.specs.declared.token.Token.{Token}
+
+-- 88, 89, 90, 68 and 84 are the bytes of X, Y, Z, D and T
+abbrev pub letter_of : ℕ → Option Letter
+letter_of b =
+    cond (b == 88) (Some X)
+    (cond (b == 89) (Some Y)
+    (cond (b == 90) (Some Z)
+    (cond (b == 68) (Some D)
+    (cond (b == 84) (Some T)
+    None))))
 
 -- a word that begins with a digit, one that begins with the letter of an axis word, or another
 pub data Sort : Type 0 where

@@ -1,6 +1,8 @@
-// The words of a console line: pieces of the line, each with its column and its sort.
+// The words and lines of a console text: pieces of it, and each word with its column and its sort.
 #![tactic(auto)]
 
+pub mod lines;
+pub mod misread;
 pub mod number;
 pub mod piece;
 pub mod reader;

@@ -1,6 +1,6 @@
 // Numbers of one to eight decimal digits.
 ghost use Rattle.std.specs.Prelude.{◌≡◌, ◌^◌, ◌<◌, ◌≤◌, length, IfSome};
-ghost use Rattle.words.specs.Numbers.{digit_of, number_of, read_on};
+ghost use Rattle.words.specs.Numbers.{number_of, read_on};
 
 const MOST_DIGITS: usize = 8;
 
@@ -15,6 +15,7 @@ pub fn read_number(word: &[u8]) -> Option<u32>
     read_digits(word)
 }
 
+#[tactic(auto, using(crate::proofs::Numbers::eight_digits_fit))]
 fn read_digits(digits: &[u8]) -> Option<u32>
     requires { length digits.now ≤ 8 }
     ensures answer { result ≡ read_on 0 digits.now }
@@ -22,17 +23,8 @@ fn read_digits(digits: &[u8]) -> Option<u32>
 {
     let mut value = 0;
     for byte in digits {
-        let digit = read_digit(*byte)?;
+        let digit = char::from(*byte).to_digit(10)?;
         value = value * 10 + digit;
     }
     Some(value)
-}
-
-fn read_digit(byte: u8) -> Option<u32>
-    ensures answer { result ≡ digit_of byte }
-{
-    match byte {
-        b'0'..=b'9' => Some(u32::from(byte - b'0')),
-        _ => None,
-    }
 }

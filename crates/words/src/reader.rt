@@ -1,11 +1,11 @@
 // The words of a line, one after another, each with its column.
-ghost use Rattle.std.specs.Prelude.{◌≡◌, ◌+◌, ◌≤◌, length};
-ghost use Rattle.words.specs.Pieces.{words_of};
-ghost use Rattle.words.specs.Reading.{end_of, left, placed, rest, untaken, word_at};
-ghost use Rattle.words.specs.Tokens.{sort_in, sort_of};
+ghost use Rattle.std.specs.Iterator.{at_most};
+ghost use Rattle.std.specs.Prelude.{◌≡◌, length};
+ghost use Rattle.words.specs.Reading.{WordsGive, unread};
 
-use super::piece::first_piece;
+use super::piece::cut;
 use super::token::{Token, read_token};
+use std::marker::Model;
 
 // A word and its column, counted from 1.
 #[derive(Clone, Copy, Debug)]
@@ -14,48 +14,56 @@ pub struct Placed<'a> {
     pub token: Token<'a>,
 }
 
-// The line, and where its next word begins: past the end, none is left.
+// What is left of the line, if it has a word left, and the column one past the line's end.
 #[derive(Drop)]
 pub struct Words<'a> {
-    line: &'a [u8],
-    from: usize,
+    rest: Option<&'a [u8]>,
+    end: usize,
+}
+
+impl<'a> Model for Words<'a> {
+    ghost use Rattle.std.specs.Prelude.{◌<◌, length, option_map, IfSome};
+    ghost use Rattle.words.specs.Unread.{Unread, words_in};
+
+    ghost Value = { Unread };
+
+    ghost view = { λ w. record { words = words_in w.end (option_map (λ text. text.now) w.rest); end = w.end } };
+
+    ghost invariant = { λ w. IfSome w.rest (λ text. length text.now < w.end) };
 }
 
 impl<'a> Words<'a> {
     pub fn new(line: &'a [u8]) -> Self
-        ensures answer { (left result ≡ placed 1 (words_of line.now)) × (end_of result ≡ length line.now + 1) }
+        ensures answer { result ≡ unread line.now }
     {
-        Words { line, from: 0 }
-    }
-
-    pub fn next(&mut self) -> Option<Placed<'a>>
-        ensures answer { left self.old ≡ untaken result (left self.new) }
-        ensures after { (left self.new ≡ rest (left self.old)) × (end_of self.new ≡ end_of self.old) }
-    {
-        if self.from > self.line.len() {
-            return None;
+        Words {
+            rest: Some(line),
+            end: line.len() + 1,
         }
-        Some(self.step())
     }
 
     // One past the end of the line: the column of a word that is missing.
     pub fn end(&self) -> usize
-        ensures answer { result ≡ end_of self.now }
+        ensures answer { result ≡ self.now.end }
     {
-        self.line.len() + 1
+        self.end
     }
+}
 
-    fn step(&mut self) -> Placed<'a>
-        requires { self.old.from ≤ length self.old.line.now }
-        ensures answer { (result.column ≡ self.old.from + 1) × (sort_in result.token ≡ sort_of (word_at self.old)) }
-        ensures after { (self.new.from ≡ self.old.from + 1 + length (word_at self.old)) × (self.new.line.now ≡ self.old.line.now) }
-    {
-        let word = first_piece(self.line.split_at(self.from).1, b' ');
-        let column = self.from + 1;
-        self.from = column + word.len();
-        Placed {
-            column,
+impl<'a> Iterator for Words<'a> {
+    type Item = Placed<'a>;
+
+    ghost next_gives = { WordsGive };
+
+    ghost remaining = { λ w. at_most (length w.words) };
+
+    fn next(&mut self) -> Option<Placed<'a>> {
+        let text = self.rest?;
+        let (word, rest) = cut(text, b' ');
+        self.rest = rest;
+        Some(Placed {
+            column: self.end - text.len(),
             token: read_token(word),
-        }
+        })
     }
 }

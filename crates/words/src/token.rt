@@ -1,6 +1,7 @@
 // Tokens: a word's sort, with the part of the line that it borrows.
-ghost use Rattle.words.specs.Tokens.{sort_in, sort_of};
 ghost use Rattle.std.specs.Prelude.{◌≡◌};
+ghost use Rattle.std.specs.Result.{result_ok};
+ghost use Rattle.words.specs.Tokens.{letter_of, sort_in, sort_of};
 
 // The letters of axis words.
 #[derive(Clone, Copy, PartialEq, Eq, Debug)]
@@ -10,6 +11,27 @@ pub enum Letter {
     Z,
     D,
     T,
+}
+
+// A byte that is none of the letters.
+#[derive(Clone, Copy, PartialEq, Eq, Debug)]
+pub struct NoLetter;
+
+impl TryFrom<u8> for Letter {
+    type Error = NoLetter;
+
+    ghost try_from_gives = { λ byte res. result_ok res ≡ letter_of byte };
+
+    fn try_from(byte: u8) -> Result<Self, NoLetter> {
+        match byte {
+            b'X' => Ok(Letter::X),
+            b'Y' => Ok(Letter::Y),
+            b'Z' => Ok(Letter::Z),
+            b'D' => Ok(Letter::D),
+            b'T' => Ok(Letter::T),
+            _ => Err(NoLetter),
+        }
+    }
 }
 
 #[derive(Clone, Copy, Debug)]
@@ -27,11 +49,10 @@ pub(crate) fn read_token(word: &[u8]) -> Token<'_>
 {
     match word {
         [b'0'..=b'9', ..] => Token::Number(word),
-        [b'X', rest @ ..] => Token::Atom(Letter::X, rest),
-        [b'Y', rest @ ..] => Token::Atom(Letter::Y, rest),
-        [b'Z', rest @ ..] => Token::Atom(Letter::Z, rest),
-        [b'D', rest @ ..] => Token::Atom(Letter::D, rest),
-        [b'T', rest @ ..] => Token::Atom(Letter::T, rest),
-        _ => Token::Name(word),
+        [first, rest @ ..] => match Letter::try_from(*first) {
+            Ok(letter) => Token::Atom(letter, rest),
+            Err(NoLetter) => Token::Name(word),
+        },
+        [] => Token::Name(word),
     }
 }

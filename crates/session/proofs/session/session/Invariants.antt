@@ -1,17 +1,15 @@
 -- What was written, and what the lines that are left still give, make the whole transcript; the lines left lead to the same machine.
-use Rattle.std.proofs.Common.{◌≡◌, ◌+◌, ◌-◌, ◌≤◌, ◌++◌, length, drop, string_bytes}
+use Rattle.std.proofs.Common.{◌≡◌, ◌+◌, ◌++◌, string_bytes}
 use Rattle.memory.specs.View.{machine}
 use Rattle.session.proofs.session.session.Given as goal
 use Rattle.session.specs.Transcript.{transcript, machine_after}
 use Rattle.words.specs.Pieces.{lines_of}
 
-abbrev pub invariant-loop-from : goal.invariant-loop-from
-invariant-loop-from g l =
-    (l.number ≤ l.from + 1)
-    × (string_bytes l.out ++ transcript l.number (machine g.S.Store.words l.memory) (lines_of (drop l.from l.text))
+abbrev pub invariant-loop-index : goal.invariant-loop-index
+invariant-loop-index g l =
+    (goal.iterator-loop-index g).can_next l.index-iterator
+    × (goal.iterator-loop-index g).is_finite l.index-iterator
+    × (string_bytes l.out ++ transcript (l.index-iterator.count + 1) (machine g.S.Store.words l.memory) l.index-iterator.iter
     ≡ transcript 1 (machine g.S.Store.words l.initial.memory) (lines_of l.text))
-    × (machine_after (machine g.S.Store.words l.memory) (lines_of (drop l.from l.text))
+    × (machine_after (machine g.S.Store.words l.memory) l.index-iterator.iter
     ≡ machine_after (machine g.S.Store.words l.initial.memory) (lines_of l.text))
-
-abbrev pub decreases-loop-from : goal.decreases-loop-from
-decreases-loop-from g l = length l.text - l.from

@@ -1,25 +1,14 @@
--- A byte more, the first end, and a text without one.
-use Rattle.std.proofs.lemmas.List.Sums.{prefix_len-drop_yes, prefix_len-drop_no, prefix_len-drop_all}
+-- The first end, or else the length.
+use Rattle.std.proofs.Common.{◌≡◌, ◌==◌, not, position, rules, tests, arith}
 use Rattle.std.proofs.lemmas.Bool.Decides.{nat_tests}
+use Rattle.std.proofs.lemmas.Iterator.{YieldsList-from_slice}
+use Rattle.std.proofs.lemmas.Iterator.Search.{position_from_yields_List}
+use Rattle.std.proofs.lemmas.List.Sums.{prefix_len-le-length}
 use Rattle.words.proofs.piece.reach.Goals as goal
-use Rattle.std.proofs.Common.{◌≡◌, true, false, not, eqb, get_or, arith}
 
-pub loop-i-preserved : goal.loop-i-preserved
-loop-i-preserved c =
-    let other : not (eqb (get_or c.args.text.now c.loop-i.i 0) c.args.end) ≡ true = grind (arith, nat_tests) in
-    omega (arith, prefix_len-drop_yes (λ b. not (eqb b c.args.end)) c.args.text.now c.loop-i.i 0 (omega arith) other)
-
-pub returns-then-byte-end : goal.returns-then-byte-end
-returns-then-byte-end c =
-    let same : not (eqb (get_or c.args.text.now c.loop-i.i 0) c.args.end) ≡ false = grind (arith, nat_tests) in
-    record {
-      answer = omega (arith, prefix_len-drop_no (λ b. not (eqb b c.args.end)) c.args.text.now c.loop-i.i 0 (omega arith) same);
-      bound = omega arith;
-    }
-
-pub returns : goal.returns
-returns c =
-    record {
-      answer = omega (arith, prefix_len-drop_all (λ b. not (eqb b c.args.end)) c.args.text.now c.loop-i.i (omega arith));
-      bound = omega arith;
-    }
+pub returns-clause-answer : goal.returns-clause-answer
+returns-clause-answer c =
+    let found : c.position.result ≡ position (λ b. b == c.args.end) c.args.text.now =
+    position_from_yields_List (λ b. b == c.args.end) _ _ c.position.result c.position.ensures.ran (YieldsList-from_slice c.args.text.now cc) (λ x b q k. search (rules, tests)) in
+    let within = prefix_len-le-length (λ b. not (b == c.args.end)) c.args.text.now in
+    rw (c.unwrap_or.ensures, found) (grind (arith, nat_tests))
