@@ -79,12 +79,11 @@ fn read_signed(text: &[u8]) -> Option<i32>
 pub(crate) fn take<V: FromWord>(words: &mut Words<'_>) -> Result<V, Misread>
     ensures answer { took result words.new ≡ take V.said words.old }
 {
-    match words.next() {
-        Some(Placed { column, token }) => V::from_word(token).ok_or(Misread { column }),
-        None => Err(Misread {
-            column: words.end(),
-        }),
-    }
+    let missing = Misread {
+        column: words.end(),
+    };
+    let Placed { column, token } = words.next().ok_or(missing)?;
+    V::from_word(token).ok_or(Misread { column })
 }
 
 // A word that is left over is not understood.

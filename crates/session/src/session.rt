@@ -13,6 +13,7 @@ use store::words::Store;
 use words::lines::Lines;
 
 // Fails only for want of memory to write the transcript in.
+#[tactic(auto, using(crate::proofs::Transcripts::one_more_reply, crate::proofs::Transcripts::one_more_turn, crate::proofs::Transcripts::all_written, crate::proofs::Transcripts::all_done))]
 pub fn session<S: Store>(
     heap: Global,
     memory: &mut ListMemory<S, AxisWord>,

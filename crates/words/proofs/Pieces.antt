@@ -1,10 +1,17 @@
 -- The first piece of a text, and those after it.
-use Rattle.std.proofs.Common.{Bor, option_map, ◌≡◌, ℕ, suc, ◌+◌, ◌<◌, ◌≤◌, true, false, eqb, ltb, List, [], ◌∷◌, length, take, drop, Some, None, Option, refl, ap, ◌∙◌, inl, inr, one-add, add-one, arith}
+use Rattle.std.proofs.Common.{Bor, option_map, position, not, ◌==◌, ◌≡◌, ℕ, suc, ◌+◌, ◌<◌, ◌≤◌, true, false, eqb, ltb, List, [], ◌∷◌, length, take, drop, Some, None, Option, refl, ap, ◌∙◌, inl, inr, one-add, add-one, arith}
 use Rattle.std.proofs.lemmas.Bool.{cases_Bool, cases_lt}
 use Rattle.std.proofs.lemmas.Bool.Decides.{nat_tests}
 use Rattle.std.proofs.lemmas.List.{take_all}
+use Rattle.std.proofs.lemmas.List.Sums.{prefix_len-le-length}
 use Rattle.std.specs.Option.{unwrap_or}
 use Rattle.words.specs.Pieces.{before, beyond, lines_of, onto, pieces, words_of}
+
+pub before_within : (end : ℕ) (bs : List ℕ) → before end bs ≤ length bs
+before_within end bs = prefix_len-le-length (λ b. not (b == end)) bs
+
+pub found_or_end : (end : ℕ) (bs : List ℕ) → unwrap_or (position (λ b. b == end) bs) (length bs) ≡ before end bs
+found_or_end end bs = grind (arith, nat_tests, before_within)
 
 module _ (last : List (List ℕ)) (end b : ℕ) (bs : List ℕ) where
   pub end_cuts : eqb b end ≡ true → pieces last end (b ∷ bs) ≡ [] ∷ pieces last end bs

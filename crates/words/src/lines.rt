@@ -38,6 +38,7 @@ impl<'a> Iterator for Lines<'a> {
 
     ghost remaining = { item_count (λ lines. lines) };
 
+    #[tactic(auto, using(crate::proofs::Pieces::lines_cut, crate::proofs::Pieces::lines_after, crate::proofs::Pieces::no_lines))]
     fn next(&mut self) -> Option<&'a [u8]> {
         if self.rest.is_empty() {
             return None;

@@ -21,6 +21,7 @@ fn read_digits(digits: &[u8]) -> Option<u32>
     ensures answer { result ≡ read_on 0 digits.now }
     ensures bound { IfSome result (λ n. n < 10 ^ 8) }
 {
+    // A loop: in a fold nothing bounds the value that the closure is given.
     let mut value = 0;
     for byte in digits {
         let digit = char::from(*byte).to_digit(10)?;

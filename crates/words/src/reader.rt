@@ -57,6 +57,7 @@ impl<'a> Iterator for Words<'a> {
 
     ghost remaining = { λ w. at_most (length w.words) };
 
+    #[tactic(auto, using(crate::proofs::Reading::next_word))]
     fn next(&mut self) -> Option<Placed<'a>> {
         let text = self.rest?;
         let (word, rest) = cut(text, b' ');
