@@ -1,5 +1,5 @@
 -- A command is read from its own text.
-use Rattle.std.proofs.Common.{◌≡◌, ℕ, ◌+◌, ◌*◌, ◌≤◌, cond, ltb, List, [], ◌∷◌, ◌++◌, length, Ok, Option, codes, decimal, refl, ap, ◌∙◌, arith, length-append}
+use Rattle.std.proofs.Common.{◌≡◌, ℕ, ◌+◌, ◌*◌, ◌≤◌, List, [], ◌∷◌, ◌++◌, length, Ok, Option, codes, decimal, sym, refl, ap, ◌∙◌, arith, length-append}
 use Rattle.command.specs.Commands.{command_of, parsed}
 use Rattle.command.specs.Operands.{as_number, take, and_then, alone, understood, one_of, two_of}
 use Rattle.command.specs.declared.command.Command.TheVariants.{Open, Set, Cons, Car, Cdr, Rplaca, Rplacd, Load, Clear, Look, Same}
@@ -7,7 +7,7 @@ use Rattle.command.specs.declared.command.Command.{Command}
 use Rattle.language.proofs.Numbers.{Operand, Says, number_says, atom_says}
 use Rattle.language.proofs.Words.{words_cut_again}
 use Rattle.language.specs.Laws.{Spaceless, Writable, command_words, rejoined, spaced_out}
-use Rattle.std.proofs.lemmas.Bool.Decides.{nat_tests}
+use Rattle.std.proofs.lemmas.Bool.{cond_above}
 use Rattle.std.specs.List.{AllByRecursion}
 use Rattle.words.specs.Tokens.{Sort}
 use Rattle.words.specs.Unread.{Unread, placed}
@@ -43,9 +43,6 @@ all_whole : (ws : List (List ℕ)) → AllByRecursion Operand ws → AllByRecurs
 all_whole [] h = tt
 all_whole (w ∷ ws) h = (h.0.whole, all_whole ws h.1)
 
-not_above : {V : Type 0} (n : ℕ) (above below : V) → n ≤ 64 → cond (ltb 64 n) above below ≡ below
-not_above n above below h = grind (arith, nat_tests)
-
 -- a line of a command word and at most three operands
 line_returns : (w : List ℕ) (ws : List (List ℕ)) (command : Command) → Spaceless w → length w ≤ 6 → AllByRecursion Operand ws → length ws ≤ 3
     → ((end : ℕ) → command_of (left end 1 (w ∷ ws)) ≡ Ok command)
@@ -54,7 +51,7 @@ unfolding rejoined
 line_returns w ws command whole small each few reads =
     let line : List ℕ = w ++ spaced_out ws in
     let short : length line ≤ 64 = omega (arith, length-append w (spaced_out ws), spaced_short ws each) in
-    not_above (length line) _ _ short
+    sym (cond_above 64 (length line) _ _ _ short refl)
     ∙ ap (λ vs. command_of (left (length line + 1) 1 vs)) (words_cut_again w ws (whole, all_whole ws each))
     ∙ reads (length line + 1)
 

@@ -1,5 +1,6 @@
 mod Commands
 mod Lines
 mod Numbers
+mod Pieces
 mod Spelling
 mod Words

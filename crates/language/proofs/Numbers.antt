@@ -1,5 +1,5 @@
 -- Numbers and atoms are read from their own text.
-use Rattle.std.proofs.Common.{◌≡◌, ℕ, suc, ◌+◌, ◌-◌, ◌*◌, ◌<◌, ◌≤◌, Bool, true, false, ◌&&◌, eqb, leb, List, [], ◌∷◌, length, get_or, ℤ, pos, negsuc, neg_ℤ, Some, Option, decimal, refl, ap, ◌∙◌, arith, rules}
+use Rattle.std.proofs.Common.{◌≡◌, ℕ, suc, ◌+◌, ◌-◌, ◌*◌, ◌<◌, ◌≤◌, true, false, ◌&&◌, eqb, leb, List, [], ◌∷◌, length, get_or, ℤ, pos, negsuc, neg_ℤ, Some, Option, decimal, refl, ap, ◌∙◌, arith, rules}
 use Rattle.atom.specs.Shown.{axis_text}
 use Rattle.atom.specs.declared.axis.AxisWord.TheVariants.{X, Y, Z, D, T}
 use Rattle.atom.specs.declared.axis.AxisWord.{AxisWord}
@@ -8,8 +8,8 @@ use Rattle.command.specs.Operands.{as_number, as_atom}
 use Rattle.language.specs.Laws.{Short, ShortTarget, ShortAtom, Spaceless}
 use Rattle.std.proofs.lemmas.Fmt.{digits_decimal, digits_value-decimal, decimal_nonempty, length-decimal-le}
 use Rattle.std.proofs.lemmas.Str.Parse.{IsNumeralModel, numerals_by_fold, tells_all_ascii_digits}
+use Rattle.std.proofs.lemmas.Bool.{and_parts}
 use Rattle.std.proofs.lemmas.Bool.Decides.{nat_tests}
-use Rattle.std.specs.Char.{is_ascii_digit}
 use Rattle.std.specs.Fmt.{signed_decimal}
 use Rattle.std.specs.Str.{all_ascii_digits}
 use Rattle.words.specs.Numbers.{is_digit, number_of, read_on}
@@ -25,10 +25,6 @@ pub record Says {V : Type 0} (says : Sort → Option V) (w : List ℕ) (v : V) :
   pub written : Operand w
   pub said : says (sort_of w) ≡ Some v
 
-and_apart : (a b : Bool) → (a && b) ≡ true → (a ≡ true) × (b ≡ true)
-and_apart true b h = (refl, h)
-and_apart false b h = absurd (let z : ◌≡◌ {A = ℕ} 0 1 = cc in omega arith)
-
 -- digits from the left, after the number so far
 abbrev onward : ℕ → List ℕ → ℕ
 onward n [] = n
@@ -37,27 +33,24 @@ onward n (b ∷ bs) = onward (n * 10 + (b - 48)) bs
 own : IsNumeralModel (λ ds. all_ascii_digits ds ≡ true) (onward 0)
 own = numerals_by_fold _ tells_all_ascii_digits onward (search rules)
 
-digit_tells : (b : ℕ) → is_ascii_digit b ≡ true → is_digit b ≡ true
-digit_tells b h = grind (arith, nat_tests)
-
-digits_apart : (b : ℕ) (bs : List ℕ) → all_ascii_digits (b ∷ bs) ≡ true → (is_ascii_digit b ≡ true) × (all_ascii_digits bs ≡ true)
-digits_apart b bs h = and_apart (is_ascii_digit b) (all_ascii_digits bs) h
+digits_apart : (b : ℕ) (bs : List ℕ) → all_ascii_digits (b ∷ bs) ≡ true → (is_digit b ≡ true) × (all_ascii_digits bs ≡ true)
+digits_apart b bs h = and_parts (is_digit b) (all_ascii_digits bs) h
 
 reads_digits : (n : ℕ) (ds : List ℕ) → all_ascii_digits ds ≡ true → read_on n ds ≡ Some (onward n ds)
 reads_digits n [] h = refl
 reads_digits n (b ∷ bs) h =
-    rw (digit_tells b (digits_apart b bs h).0) (reads_digits (n * 10 + (b - 48)) bs (digits_apart b bs h).1)
+    rw (digits_apart b bs h).0 (reads_digits (n * 10 + (b - 48)) bs (digits_apart b bs h).1)
 
 digits_have_no_space : (ds : List ℕ) → all_ascii_digits ds ≡ true → Spaceless ds
 digits_have_no_space [] h = refl
 digits_have_no_space (b ∷ bs) h =
-    let digit : is_digit b ≡ true = digit_tells b (digits_apart b bs h).0 in
+    let digit : is_digit b ≡ true = (digits_apart b bs h).0 in
     let other : eqb b 32 ≡ false = grind (arith, nat_tests) in
     rw other (digits_have_no_space bs (digits_apart b bs h).1)
 
 first_digit : (ds : List ℕ) → all_ascii_digits ds ≡ true → 0 < length ds → is_digit (get_or ds 0 0) ≡ true
 first_digit [] h some = absurd (omega arith)
-first_digit (b ∷ bs) h some = digit_tells b (digits_apart b bs h).0
+first_digit (b ∷ bs) h some = (digits_apart b bs h).0
 
 -- what a number of one to eight digits is read as
 within_eight : (w : List ℕ) → 1 ≤ length w → length w ≤ 8 → number_of w ≡ read_on 0 w

@@ -1,5 +1,6 @@
 -- The words of a line, put together again.
-use Rattle.std.proofs.Common.{◌≡◌, ℕ, false, eqb, List, [], ◌∷◌, ◌++◌, sym, refl, ap, ◌∙◌, inl, inr, arith}
+use Rattle.std.proofs.Common.{◌≡◌, ℕ, false, eqb, List, [], ◌∷◌, sym, refl, ap, ◌∙◌, inl, inr, arith}
+use Rattle.language.proofs.Pieces.{piece_goes_on}
 use Rattle.language.specs.Laws.{spaced_out, rejoined, Spaceless}
 use Rattle.std.proofs.lemmas.Bool.{cases_Bool}
 use Rattle.std.specs.List.{AllByRecursion}
@@ -51,20 +52,12 @@ words_have_no_space (b ∷ bs) =
       | inr e ↦ rw (other_goes_on ([] ∷ []) 32 b bs e) (onto_spaceless b (words_of bs) e (words_have_no_space bs))
     ]
 
--- a word without a space goes on to the first space after it
-word_goes_on : (w rest : List ℕ) (ws : List (List ℕ)) → Spaceless w → words_of rest ≡ [] ∷ ws → words_of (w ++ rest) ≡ w ∷ ws
-word_goes_on [] rest ws h e = e
-word_goes_on (b ∷ bs) rest ws h e =
-    let other : eqb b 32 ≡ false = grind (arith, nat_tests) in
-    let more : Spaceless bs = grind (arith, nat_tests) in
-    other_goes_on ([] ∷ []) 32 b (bs ++ rest) other ∙ ap (onto b) (word_goes_on bs rest ws more e)
-
 spaces_cut_again : (ws : List (List ℕ)) → AllByRecursion Spaceless ws → words_of (spaced_out ws) ≡ [] ∷ ws
 unfolding spaced_out pieces
 spaces_cut_again [] h = refl
 spaces_cut_again (w ∷ ws) h =
-    ap (λ vs. [] ∷ vs) (word_goes_on w (spaced_out ws) ws h.0 (spaces_cut_again ws h.1))
+    ap (λ vs. [] ∷ vs) (piece_goes_on ([] ∷ []) 32 w (spaced_out ws) ws h.0 (spaces_cut_again ws h.1))
 
 pub words_cut_again : (w : List ℕ) (ws : List (List ℕ)) → AllByRecursion Spaceless (w ∷ ws) → words_of (rejoined (w ∷ ws)) ≡ w ∷ ws
 unfolding rejoined
-words_cut_again w ws h = word_goes_on w (spaced_out ws) ws h.0 (spaces_cut_again ws h.1)
+words_cut_again w ws h = piece_goes_on ([] ∷ []) 32 w (spaced_out ws) ws h.0 (spaces_cut_again ws h.1)
