@@ -15,15 +15,15 @@ use words::token::{Letter, Token};
 pub(crate) trait FromWord: Sized {
     ghost said: { Sort → Option Self };
 
-    fn from_word(token: Token<'_>) -> Option<Self>
-        ensures answer { result ≡ said (sort_in token.entry) };
+    fn from_word(word: Token<'_>) -> Option<Self>
+        ensures answer { result ≡ said (sort_in word.entry) };
 }
 
 impl FromWord for Verb {
     ghost said = { as_verb };
 
-    fn from_word(token: Token<'_>) -> Option<Verb> {
-        match token {
+    fn from_word(word: Token<'_>) -> Option<Verb> {
+        match word {
             Token::Name(name) => Verb::try_from(name).ok(),
             _ => None,
         }
@@ -33,8 +33,8 @@ impl FromWord for Verb {
 impl FromWord for usize {
     ghost said = { as_number };
 
-    fn from_word(token: Token<'_>) -> Option<usize> {
-        match token {
+    fn from_word(word: Token<'_>) -> Option<usize> {
+        match word {
             Token::Number(digits) => Some(read_number(digits)? as usize),
             _ => None,
         }
@@ -44,8 +44,8 @@ impl FromWord for usize {
 impl FromWord for AxisWord {
     ghost said = { as_atom };
 
-    fn from_word(token: Token<'_>) -> Option<AxisWord> {
-        match token {
+    fn from_word(word: Token<'_>) -> Option<AxisWord> {
+        match word {
             Token::Atom(letter, text) => read_atom(letter, text),
             _ => None,
         }

@@ -55,7 +55,7 @@ line_returns w ws command whole small each few reads =
     ∙ ap (λ vs. command_of (left (length line + 1) 1 vs)) (words_cut_again w ws (whole, all_whole ws each))
     ∙ reads (length line + 1)
 
--- a command word with one operand, two or three, once they are read as those of its command
+-- a command word with one operand or two, once they are read as those of its command
 module _ (w : List ℕ) (whole : Spaceless w) (small : length w ≤ 6) where
   with_one : {A : Type 0} {says : Sort → Option A} {v : List ℕ} {a : A} (made : A → Command) → Says says v a
       → ((end : ℕ) → command_of (left end 1 (w ∷ v ∷ [])) ≡ and_then (one_of says made (left end (1 + length w + 1) (v ∷ []))) alone)

@@ -4,7 +4,7 @@ ghost use Rattle.std.specs.Prelude.{◌≡◌, length};
 ghost use Rattle.words.specs.Reading.{WordsGive, unread};
 
 use super::piece::cut;
-use super::token::{Token, read_token};
+use super::token::Token;
 use std::marker::Model;
 
 // A word and its column, counted from 1.
@@ -64,7 +64,7 @@ impl<'a> Iterator for Words<'a> {
         self.rest = rest;
         Some(Placed {
             column: self.end - text.len(),
-            token: read_token(word),
+            token: Token::from(word),
         })
     }
 }

@@ -44,15 +44,17 @@ pub enum Token<'a> {
     Name(&'a [u8]),
 }
 
-pub(crate) fn read_token(word: &[u8]) -> Token<'_>
-    ensures answer { sort_in result ≡ sort_of word.now }
-{
-    match word {
-        [b'0'..=b'9', ..] => Token::Number(word),
-        [first, rest @ ..] => match Letter::try_from(*first) {
-            Ok(letter) => Token::Atom(letter, rest),
-            Err(NoLetter) => Token::Name(word),
-        },
-        [] => Token::Name(word),
+impl<'a> From<&'a [u8]> for Token<'a> {
+    ghost from_gives = { λ word token. sort_in token ≡ sort_of word.now };
+
+    fn from(word: &'a [u8]) -> Self {
+        match word {
+            [b'0'..=b'9', ..] => Token::Number(word),
+            [first, rest @ ..] => match Letter::try_from(*first) {
+                Ok(letter) => Token::Atom(letter, rest),
+                Err(NoLetter) => Token::Name(word),
+            },
+            [] => Token::Name(word),
+        }
     }
 }
