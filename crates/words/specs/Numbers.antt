@@ -5,10 +5,6 @@ use Rattle.std.specs.Prelude.{ℕ, ◌+◌, ◌-◌, ◌*◌, Bool, cond, ◌&&�
 abbrev pub is_digit : ℕ → Bool
 is_digit b = nat_le 48 b && nat_le b 57
 
--- the digit that a byte writes
-abbrev pub digit_of : ℕ → Option ℕ
-digit_of b = cond (is_digit b) (Some (b - 48)) None
-
 -- the number that goes on with these digits after `n`
 abbrev pub read_on : ℕ → List ℕ → Option ℕ
 read_on n [] = Some n

@@ -6,7 +6,7 @@ use Rattle.words.specs.declared.token.Letter.{Letter}
 use Rattle.words.specs.declared.token.Token.TheVariants as t
 use Rattle.words.specs.declared.token.Token.{Token}
 
--- 88, 89, 90, 68 and 84 are the bytes of X, Y, Z, D and T
+-- the letter that a byte writes: 88, 89, 90, 68 and 84 are the bytes of X, Y, Z, D and T
 abbrev pub letter_of : ℕ → Option Letter
 letter_of b =
     cond (b == 88) (Some X)
@@ -26,7 +26,7 @@ pub data Sort : Type 0 where
 abbrev pub begins : List ℕ → ℕ → Bool
 begins w b = nat_le 1 (length w) && slice_index w 0 == b
 
--- 88, 89, 90, 68 and 84 are the bytes of X, Y, Z, D and T
+-- the sort of a word, by its first byte
 abbrev pub sort_of : List ℕ → Sort
 sort_of w =
     cond (nat_le 1 (length w) && is_digit (slice_index w 0)) (number w)
