@@ -7,7 +7,6 @@ ghost use Rattle.machine.specs.Calls.{cons_call};
 ghost use Rattle.machine.specs.Feed.{feed_call};
 ghost use Rattle.machine.specs.Holds.{back_call};
 ghost use Rattle.memory.specs.Tokens.{Held, pass_of};
-ghost use Rattle.memory.specs.View.{machine};
 
 use atom::kind::Atom;
 use machine::faults::MemoryFault;
@@ -74,8 +73,8 @@ fn push_scratch<S: Store, A: Atom>(
     list: usize,
     room: &mut Room,
 ) -> Result<(), MemoryFault>
-    ensures answer { result ≡ (cons_call (machine S.words memory.old) list 15 list).answer }
-    ensures after { machine S.words memory.new ≡ (cons_call (machine S.words memory.old) list 15 list).after }
+    ensures answer { result ≡ (cons_call memory.old list 15 list).answer }
+    ensures after { memory.new ≡ (cons_call memory.old list 15 list).after }
     ensures room { room.new ≡ noted room.old result }
 {
     let answer = memory.cons(list, SCRATCH, list);
@@ -90,7 +89,7 @@ pub(crate) fn push<S: Store, A: Atom>(
     atom: A,
     room: &mut Room,
 ) -> Result<(), MemoryFault>
-    ensures keeps { Keeps (machine S.words memory.old) (machine S.words memory.new) }
+    ensures keeps { Keeps memory.old memory.new }
 {
     memory.set(SCRATCH, atom)?;
     for _ in 0..TRIES {
@@ -109,7 +108,7 @@ pub(crate) fn build<S: Store, A: Atom>(
     atoms: &[A],
     room: &mut Room,
 ) -> Result<(), MemoryFault>
-    ensures keeps { Keeps (machine S.words memory.old) (machine S.words memory.new) }
+    ensures keeps { Keeps memory.old memory.new }
 {
     memory.clear(list)?;
     for i in 0..atoms.len() {
@@ -136,8 +135,8 @@ pub(crate) fn replace<S: Store, A: Atom>(
 
 // Gives back what is surely held.
 fn restore<S: Store, A: Atom>(memory: &mut ListMemory<S, A>, d: usize, token: Token)
-    requires { (d < 16) × (Held (machine S.words memory.old) token) }
-    ensures { machine S.words memory.new ≡ (back_call (machine S.words memory.old) d (pass_of token)).after }
+    requires { (d < 16) × (Held memory.old token) }
+    ensures { memory.new ≡ (back_call memory.old d (pass_of token)).after }
 {
     match memory.back(d, token) {
         Ok(()) => (),
@@ -154,7 +153,7 @@ fn build_and_restore<S: Store, A: Atom>(
     token: Token,
     room: &mut Room,
 ) -> Result<(), MemoryFault>
-    requires { (d < 16) × (Held (machine S.words memory.old) token) }
+    requires { (d < 16) × (Held memory.old token) }
 {
     let built = build(memory, list, atoms, room);
     restore(memory, d, token);
@@ -181,8 +180,8 @@ pub(crate) fn feed<S: Store, A: Atom>(
     list: usize,
     blank: A,
 ) -> Result<Fed<A>, MemoryFault>
-    ensures told { told_of result ≡ (feed_call A.meant (machine S.words memory.old) list 1 (replicate 12 blank)).answer }
-    ensures after { machine S.words memory.new ≡ (feed_call A.meant (machine S.words memory.old) list 1 (replicate 12 blank)).after }
+    ensures told { told_of result ≡ (feed_call A.meant memory.old list 1 (replicate 12 blank)).answer }
+    ensures after { memory.new ≡ (feed_call A.meant memory.old list 1 (replicate 12 blank)).after }
 {
     let mut atoms = [blank; LONGEST];
     let (count, ended) = memory.feed(list, FEEDING, &mut atoms)?;

@@ -1,7 +1,6 @@
 // A place that is given back, taken anew and given back again.
 ghost use Rattle.hold_uses.specs.Anew.{taking, giving, twice, taken, given};
 ghost use Rattle.memory.specs.Tokens.{pass_of};
-ghost use Rattle.memory.specs.View.{machine};
 ghost use Rattle.std.specs.Prelude.{◌≡◌, Some, None};
 
 use atom::kind::Atom;
@@ -37,24 +36,26 @@ impl From<Kept> for Stopped {
     }
 }
 
+#[tactic(auto, unfolding(crate::specs::Anew::taking))]
 fn take<S: Store, A: Atom>(
     memory: &mut ListMemory<S, A>,
     r: usize,
     p: usize,
 ) -> Result<Token, Stopped>
-    ensures answer { taken result ≡ (taking (machine S.words memory.old) r p).answer }
-    ensures after { machine S.words memory.new ≡ (taking (machine S.words memory.old) r p).after }
+    ensures answer { taken result ≡ (taking memory.old r p).answer }
+    ensures after { memory.new ≡ (taking memory.old r p).after }
 {
     Ok(memory.hold(r, p)?)
 }
 
+#[tactic(auto, unfolding(crate::specs::Anew::giving))]
 fn give<S: Store, A: Atom>(
     memory: &mut ListMemory<S, A>,
     d: usize,
     token: Token,
 ) -> Result<(), Stopped>
-    ensures answer { given result ≡ (giving (machine S.words memory.old) d (pass_of token)).answer }
-    ensures after { machine S.words memory.new ≡ (giving (machine S.words memory.old) d (pass_of token)).after }
+    ensures answer { given result ≡ (giving memory.old d (pass_of token)).answer }
+    ensures after { memory.new ≡ (giving memory.old d (pass_of token)).after }
 {
     Ok(memory.back(d, token)?)
 }
@@ -67,11 +68,11 @@ pub fn hold_twice<S: Store, A: Atom>(
     d: usize,
     e: usize,
 ) -> Result<(), Stopped>
-    ensures answer { given result ≡ (twice (machine S.words memory.old) r p d e).answer }
-    ensures after { machine S.words memory.new ≡ (twice (machine S.words memory.old) r p d e).after }
+    ensures answer { given result ≡ (twice memory.old r p d e).answer }
+    ensures after { memory.new ≡ (twice memory.old r p d e).after }
 {
-    let mut first = Some(take(memory, r, p)?);
-    give(memory, d, first.take().unwrap())?;
-    let mut second = Some(take(memory, r, p)?);
-    give(memory, e, second.take().unwrap())
+    let first = take(memory, r, p)?;
+    give(memory, d, first)?;
+    let second = take(memory, r, p)?;
+    give(memory, e, second)
 }

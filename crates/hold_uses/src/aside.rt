@@ -1,6 +1,5 @@
 // A token that goes up to the caller.
 ghost use Rattle.hold_uses.specs.Aside.{UnspentUp, aside_call, passed_up};
-ghost use Rattle.memory.specs.View.{machine};
 ghost use Rattle.std.specs.Prelude.{◌≡◌};
 
 use atom::kind::Atom;
@@ -16,9 +15,9 @@ pub fn set_aside<S: Store, A: Atom>(
     r: usize,
     p: usize,
 ) -> Result<Option<Token>, MemoryFault>
-    ensures answer { passed_up result ≡ (aside_call A.meant (machine S.words memory.old) r p).answer }
+    ensures answer { passed_up result ≡ (aside_call A.meant memory.old r p).answer }
     ensures unspent { UnspentUp result }
-    ensures after { machine S.words memory.new ≡ (aside_call A.meant (machine S.words memory.old) r p).after }
+    ensures after { memory.new ≡ (aside_call A.meant memory.old r p).after }
 {
     match memory.look(r)? {
         Sight::Cell => {

@@ -3,7 +3,6 @@ ghost use Rattle.std.specs.Prelude.{◌≡◌, ◌<◌, true, is_some};
 ghost use Rattle.machine.specs.Holds.{hold_at};
 ghost use Rattle.memory.specs.Steps.{SameHolds};
 ghost use Rattle.memory.specs.Tokens.{Held};
-ghost use Rattle.memory.specs.View.{machine};
 
 #[cfg(test)]
 mod tests {
@@ -19,7 +18,7 @@ mod tests {
 
     // Gives back what is surely held.
     fn restore<S: Store, A: Atom>(memory: &mut ListMemory<S, A>, d: usize, token: Token)
-        requires { (d < 16) × (Held (machine S.words memory.old) token) }
+        requires { (d < 16) × (Held memory.old token) }
     {
         match memory.back(d, token) {
             Ok(()) => (),
@@ -28,7 +27,7 @@ mod tests {
     }
 
     fn clear<S: Store, A: Atom>(memory: &mut ListMemory<S, A>, r: usize) -> Result<(), MemoryFault>
-        ensures { SameHolds (machine S.words memory.old) (machine S.words memory.new) }
+        ensures { SameHolds memory.old memory.new }
     {
         memory.clear(r)
     }
@@ -39,7 +38,7 @@ mod tests {
         d: usize,
         token: Token,
     ) -> Result<(), MemoryFault>
-        requires { (d < 16) × (Held (machine S.words memory.old) token) }
+        requires { (d < 16) × (Held memory.old token) }
     {
         let cleared = clear(memory, r);
         restore(memory, d, token);
@@ -65,8 +64,8 @@ mod tests {
         r: usize,
         p: usize,
     ) -> MemoryFault
-        requires { is_some (hold_at (machine S.words memory.old) p) ≡ true }
-        ensures { machine S.words memory.new ≡ machine S.words memory.old }
+        requires { is_some (hold_at memory.old p) ≡ true }
+        ensures { memory.new ≡ memory.old }
     {
         match memory.hold(r, p) {
             Ok(_) => unreachable(),
@@ -80,7 +79,7 @@ mod tests {
         p: usize,
         token: Token,
     ) -> MemoryFault
-        requires { (r < 16) × ((is_some (hold_at (machine S.words memory.old) p) ≡ true) × (Held (machine S.words memory.old) token)) }
+        requires { (r < 16) × ((is_some (hold_at memory.old p) ≡ true) × (Held memory.old token)) }
     {
         let fault = hold_taken(memory, r, p);
         restore(memory, r, token);
@@ -104,7 +103,7 @@ mod tests {
         d: usize,
         token: Token,
     ) -> Result<(), MemoryFault>
-        requires { (d < 16) × (Held (machine S.words memory.old) token) }
+        requires { (d < 16) × (Held memory.old token) }
     {
         match other.back(d, token) {
             Ok(()) => Ok(()),
