@@ -1,5 +1,5 @@
 -- Every call that makes a list keeps the holds taken.
-use Rattle.std.proofs.Common.{◌≡◌, ℕ, zero, suc, Bool, true, false, cond, List, [], ◌∷◌, get_or, is_some, Some, None, Ok, Err, Option, Result, sym, refl, ◌∙◌, subst}
+use Rattle.std.proofs.Common.{◌≡◌, ℕ, zero, suc, Bool, true, false, cond, List, [], ◌∷◌, get_or, is_some, Some, None, Ok, Err, Option, Result, sym, refl, subst}
 use Rattle.atom.specs.declared.faults.KindFault.{KindFault}
 use Rattle.controller.specs.Keeping.{Keeps}
 use Rattle.machine.specs.Calls.{unless, admitted, done, put_code, set_call, cons_call}
@@ -7,12 +7,8 @@ use Rattle.machine.specs.Heap.{Heap, along, move_hold}
 use Rattle.machine.specs.Machine.{Machine, flip, flip_due, collected, room}
 use Rattle.machine.specs.declared.faults.MemoryFault.{MemoryFault}
 
-pub keeps_not : (m : Machine) → Keeps m m
+keeps_not : (m : Machine) → Keeps m m
 keeps_not m = record { opening = refl; agreed = refl; taken = λ p. refl }
-
-pub keeps_on : (m m' m'' : Machine) → Keeps m m' → Keeps m' m'' → Keeps m m''
-keeps_on m m' m'' k k' =
-    record { opening = k'.opening ∙ k.opening; agreed = k'.agreed ∙ k.agreed; taken = λ p. k'.taken p ∙ k.taken p }
 
 moved_taken : (h : Heap) (xs : List (Option ℕ)) (p : ℕ) → is_some (get_or (along move_hold h xs).value p None) ≡ is_some (get_or xs p None)
 unfolding along
@@ -55,9 +51,8 @@ set_by (Ok u) m d (Err f) = keeps_not m
 set_keeps : (m : Machine) (d : ℕ) (code : Result ℕ KindFault) → Keeps m (set_call m d code).after
 set_keeps m d code = set_by (admitted m (d ∷ [])) m d code
 
--- each call, after calls that kept the holds
-pub cons_kept : (m m₁ m₂ : Machine) (d a b : ℕ) → Keeps m m₁ → m₂ ≡ (cons_call m₁ d a b).after → Keeps m m₂
-cons_kept m m₁ m₂ d a b k e = subst (Keeps m) (sym e) (keeps_on m m₁ _ k (cons_keeps m₁ d a b))
+pub cons_kept : (m m' : Machine) (d a b : ℕ) → m' ≡ (cons_call m d a b).after → Keeps m m'
+cons_kept m m' d a b e = subst (Keeps m) (sym e) (cons_keeps m d a b)
 
-pub set-kept : (m m' : Machine) (d : ℕ) (code : Result ℕ KindFault) → m' ≡ (set_call m d code).after → Keeps m m'
-set-kept m m' d code e = subst (Keeps m) (sym e) (set_keeps m d code)
+pub set_kept : (m m' : Machine) (d : ℕ) (code : Result ℕ KindFault) → m' ≡ (set_call m d code).after → Keeps m m'
+set_kept m m' d code e = subst (Keeps m) (sym e) (set_keeps m d code)

@@ -1,3 +1,5 @@
+pub mod Endings
 pub mod Fed
 pub mod Keeping
 pub mod Rooms
+pub mod Told

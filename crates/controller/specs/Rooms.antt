@@ -1,6 +1,6 @@
 -- How the answers of conses are counted.
 use Rattle.std.specs.Prelude.{ℕ, ◌+◌, min, Ok, Err, Result}
-use Rattle.controller.specs.declared.lists.Room.{Room}
+use Rattle.controller.specs.declared.room.Room.{Room}
 use Rattle.machine.specs.declared.faults.MemoryFault.{MemoryFault}
 use Rattle.machine.specs.declared.faults.MemoryFault.TheVariants.{Shut, AlreadyOpen, HalfSize, Pace, Limit, NoRegister, NotCell, Kind, Scanning, Full, NoHold, HoldTaken, NotHeld, NotAtom}
 

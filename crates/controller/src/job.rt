@@ -1,12 +1,15 @@
 // The job: passes over a pocket, each tallied, and a contour too long for the memory.
-use crate::lists::{Fed, Room, build, build_next, feed, replace};
+ghost use Rattle.machine.specs.Machine.{shut_machine};
+ghost use Rattle.std.specs.Prelude.{◌≡◌};
+
+use crate::lists::Lists;
+use crate::lists::fed::Fed;
 use crate::pocket::{DOWN, depth, pass_at, retract, spiral, worn_depth};
 use crate::stop::Stop;
-use crate::told::{outcome, tell_moves, tell_room, tell_tally};
+use crate::told::{Outcome, tell_moves, tell_tally};
 use atom::axis::AxisWord;
 use atom::count::Count;
 use machine::faults::MemoryFault;
-use memory::memory::ListMemory;
 use store::words::Store;
 
 const PASSES: u8 = 6;
@@ -16,106 +19,103 @@ const LIST: usize = 0;
 
 const KEPT: usize = 1;
 
-// Builds a pass, corrects its depth, and builds the retract while the pass is set aside.
-fn prepare<S: Store>(
-    memory: &mut ListMemory<S, AxisWord>,
-    pass: u8,
-    room: &mut Room,
-) -> Result<(), MemoryFault> {
-    build(memory, LIST, &pass_at(depth(pass)), room)?;
-    replace(memory, LIST, DOWN, AxisWord::Z(worn_depth(pass)))?;
-    build_next(memory, LIST, &retract(), KEPT, room)
+// The moves of a pocket in one memory, and the tallies of its passes in another.
+pub struct Job<S: Store, T: Store> {
+    moves: Lists<S, AxisWord>,
+    tallies: Lists<T, Count>,
 }
 
-// Feeds the list in a register and drops it.
-fn feed_out<S: Store>(
-    memory: &mut ListMemory<S, AxisWord>,
-    list: usize,
-) -> Result<Fed<AxisWord>, MemoryFault> {
-    let fed = feed(memory, list, AxisWord::T(0))?;
-    memory.clear(list)?;
-    Ok(fed)
-}
-
-// Drops the last tally for the next: passes done, words fed in all, and the depth.
-fn tally<S: Store>(
-    memory: &mut ListMemory<S, Count>,
-    pass: u8,
-    words: usize,
-    room: &mut Room,
-) -> Result<Fed<Count>, MemoryFault> {
-    let counts = [
-        Count { value: pass as i32 },
-        Count {
-            value: i32::try_from(words).unwrap_or(i32::MAX),
-        },
-        Count {
-            value: worn_depth(pass),
-        },
-    ];
-    build(memory, LIST, &counts, room)?;
-    feed(memory, LIST, Count { value: 0 })
-}
-
-// Mills one pass, and says how many words were fed.
-fn mill<S: Store>(
-    rt: &HostRuntime,
-    memory: &mut ListMemory<S, AxisWord>,
-    pass: u8,
-    room: &mut Room,
-) -> Result<usize, Stop> {
-    println!(rt; "pass {pass}")?;
-    prepare(memory, pass, room)?;
-    let moves = feed_out(memory, KEPT)?;
-    let retract = feed_out(memory, LIST)?;
-    tell_moves(rt, "moves", &moves)?;
-    tell_moves(rt, "retract", &retract)?;
-    Ok(moves.count.saturating_add(retract.count))
-}
-
-// Mills and tallies every pass of the pocket.
-fn mill_pocket<S: Store, T: Store>(
-    rt: &HostRuntime,
-    moves: &mut ListMemory<S, AxisWord>,
-    tallies: &mut ListMemory<T, Count>,
-    cut: &mut Room,
-) -> Result<(), Stop> {
-    let mut words = 0usize;
-    let mut counted = Room::new();
-    for pass in 1..=PASSES {
-        words = words.saturating_add(mill(rt, moves, pass, cut)?);
-        tell_tally(rt, &tally(tallies, pass, words, &mut counted)?)?;
+impl<S: Store, T: Store> Job<S, T> {
+    // Over two stores, with both memories shut.
+    pub(crate) fn new(moves: S, tallies: T) -> Self
+        ensures moves { result.moves.memory ≡ shut_machine (S.words moves) }
+        ensures tallies { result.tallies.memory ≡ shut_machine (T.words tallies) }
+    {
+        Job {
+            moves: Lists::new(moves),
+            tallies: Lists::new(tallies),
+        }
     }
-    tell_room(rt, "tallies", &counted)?;
-    Ok(())
-}
 
-// Tries a spiral that is too long, feeds what was built of it and drops it.
-fn try_spiral<S: Store>(
-    rt: &HostRuntime,
-    memory: &mut ListMemory<S, AxisWord>,
-    room: &mut Room,
-) -> Result<(), Stop> {
-    let answer = build(memory, LIST, &spiral(), room);
-    println!(rt; "spiral of 40 words: {}", outcome(answer))?;
-    let fed = feed_out(memory, LIST)?;
-    tell_moves(rt, "what stands of it", &fed)?;
-    println!(rt; "  dropped, and there is room again")?;
-    Ok(())
-}
+    // The stores of the moves and of the tallies, as the memories leave them.
+    pub(crate) fn finish(self) -> (S, T)
+        ensures moves { S.words result.0 ≡ self.moves.memory.heap.words }
+        ensures tallies { T.words result.1 ≡ self.tallies.memory.heap.words }
+    {
+        let Job { moves, tallies } = self;
+        (moves.finish(), tallies.finish())
+    }
 
-// The whole job, on two memories that are still shut.
-pub(crate) fn run<S: Store, T: Store>(
-    rt: &HostRuntime,
-    moves: &mut ListMemory<S, AxisWord>,
-    tallies: &mut ListMemory<T, Count>,
-) -> Result<(), Stop> {
-    moves.open(2, 16, 1)?;
-    tallies.open(2, 3, 2)?;
-    let mut cut = Room::new();
-    mill_pocket(rt, moves, tallies, &mut cut)?;
-    try_spiral(rt, moves, &mut cut)?;
-    let _ = mill(rt, moves, PASSES, &mut cut)?;
-    tell_room(rt, "moves", &cut)?;
-    Ok(())
+    // Builds a pass, corrects its depth, and builds the retract while the pass is set aside.
+    fn prepare(&mut self, pass: u8) -> Result<(), MemoryFault> {
+        self.moves.build(LIST, &pass_at(depth(pass)))?;
+        self.moves
+            .replace(LIST, DOWN, AxisWord::Z(worn_depth(pass)))?;
+        self.moves.build_next(LIST, &retract(), KEPT)
+    }
+
+    // Feeds the moves in a register and drops them.
+    fn feed_out(&mut self, list: usize) -> Result<Fed<AxisWord>, MemoryFault> {
+        let fed = self.moves.feed(list, AxisWord::T(0))?;
+        self.moves.clear(list)?;
+        Ok(fed)
+    }
+
+    // Drops the last tally for the next: passes done, words fed in all, and the depth.
+    fn tally(&mut self, pass: u8, words: usize) -> Result<Fed<Count>, MemoryFault> {
+        let counts = [
+            Count { value: pass as i32 },
+            Count {
+                value: i32::try_from(words).unwrap_or(i32::MAX),
+            },
+            Count {
+                value: worn_depth(pass),
+            },
+        ];
+        self.tallies.build(LIST, &counts)?;
+        self.tallies.feed(LIST, Count { value: 0 })
+    }
+
+    // Mills one pass, and says how many words were fed.
+    fn mill(&mut self, rt: &HostRuntime, pass: u8) -> Result<usize, Stop> {
+        println!(rt; "pass {pass}")?;
+        self.prepare(pass)?;
+        let moves = self.feed_out(KEPT)?;
+        let retract = self.feed_out(LIST)?;
+        tell_moves(rt, "moves", &moves)?;
+        tell_moves(rt, "retract", &retract)?;
+        Ok(moves.atoms().len().saturating_add(retract.atoms().len()))
+    }
+
+    // Mills and tallies every pass of the pocket.
+    fn mill_pocket(&mut self, rt: &HostRuntime) -> Result<(), Stop> {
+        let mut words = 0usize;
+        for pass in 1..=PASSES {
+            words = words.saturating_add(self.mill(rt, pass)?);
+            tell_tally(rt, &self.tally(pass, words)?)?;
+        }
+        println!(rt; "tallies: {}", self.tallies.room())?;
+        Ok(())
+    }
+
+    // Tries a spiral that is too long, feeds what was built of it and drops it.
+    fn try_spiral(&mut self, rt: &HostRuntime) -> Result<(), Stop> {
+        let answer = self.moves.build(LIST, &spiral());
+        println!(rt; "spiral of 40 words: {}", Outcome(answer))?;
+        let fed = self.feed_out(LIST)?;
+        tell_moves(rt, "what stands of it", &fed)?;
+        println!(rt; "  dropped, and there is room again")?;
+        Ok(())
+    }
+
+    // The whole job, on two memories that are still shut.
+    pub(crate) fn run(&mut self, rt: &HostRuntime) -> Result<(), Stop> {
+        self.moves.open(2, 16, 1)?;
+        self.tallies.open(2, 3, 2)?;
+        self.mill_pocket(rt)?;
+        self.try_spiral(rt)?;
+        let _ = self.mill(rt, PASSES)?;
+        println!(rt; "moves: {}", self.moves.room())?;
+        Ok(())
+    }
 }

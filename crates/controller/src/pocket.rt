@@ -3,6 +3,7 @@ ghost use Rattle.atom.specs.declared.axis.AxisWord.TheVariants.{T, D, Z};
 ghost use Rattle.std.specs.Prelude.{◌≡◌, slice_index_or};
 
 use atom::axis::AxisWord;
+use std::array;
 
 // where the down move stands in a pass
 pub const DOWN: usize = 4;
@@ -60,9 +61,5 @@ fn corner(i: u8) -> AxisWord {
 
 // A spiral of more words than the memory has cells.
 pub(crate) fn spiral() -> [AxisWord; 40] {
-    let mut words = [AxisWord::X(0); 40];
-    for i in 0..40u8 {
-        words[i as usize] = corner(i);
-    }
-    words
+    array::from_fn(|i| corner(i as u8))
 }

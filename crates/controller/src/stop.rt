@@ -1,21 +1,12 @@
 // Why a job stops early.
 use machine::faults::MemoryFault;
 use std::io;
+use thiserror::Error;
 
-#[derive(Debug, Drop)]
+#[derive(Debug, Drop, Error)]
 pub enum Stop {
-    Memory(MemoryFault),
-    Output(io::Error),
-}
-
-impl From<MemoryFault> for Stop {
-    fn from(fault: MemoryFault) -> Stop {
-        Stop::Memory(fault)
-    }
-}
-
-impl From<io::Error> for Stop {
-    fn from(error: io::Error) -> Stop {
-        Stop::Output(error)
-    }
+    #[error("the memory refused: {0:?}")]
+    Memory(#[from] MemoryFault),
+    #[error("the output failed: {0}")]
+    Output(#[from] io::Error),
 }

@@ -1,46 +1,54 @@
 // What was done, in plain words.
-use crate::lists::{Fed, Room};
+ghost use Rattle.controller.specs.Told.{outcome_text};
+ghost use Rattle.std.specs.Iterator.{IsFinite};
+ghost use Rattle.std.specs.Prelude.{Some};
+
+use crate::lists::fed::Fed;
 use atom::axis::AxisWord;
 use atom::count::Count;
 use machine::faults::MemoryFault;
-use std::io;
+use std::{fmt, io};
 
-fn ending(ended: bool) -> &'static str {
-    if ended {
-        "the list ended"
-    } else {
-        "the list goes on"
+// What came of building a list.
+#[derive(Clone, Copy)]
+pub struct Outcome(pub Result<(), MemoryFault>);
+
+impl fmt::Display for Outcome {
+    ghost output = { λ outcome. Some (outcome_text outcome.0) };
+
+    fn fmt<W: fmt::Write>(&self, f: &mut fmt::Formatter<W>) -> fmt::Result {
+        f.write_str(match self.0 {
+            Ok(()) => "built",
+            Err(MemoryFault::Full) => "refused, the memory is full",
+            Err(MemoryFault::Scanning) => "refused, the memory is still scanning",
+            Err(_) => "refused",
+        })
     }
+}
+
+// A name, and what follows it, one by one.
+fn tell_each<T: fmt::Display + Drop, I: Iterator<Item = T> + Drop>(
+    rt: &HostRuntime,
+    name: &str,
+    shown: I,
+) -> io::Result<()>
+    requires can { I.can_next shown }
+    requires ends { IsFinite (I.remaining shown) }
+{
+    print!(rt; "  {name}:")?;
+    for item in shown {
+        print!(rt; " {item}")?;
+    }
+    Ok(())
 }
 
 pub(crate) fn tell_moves(rt: &HostRuntime, name: &str, fed: &Fed<AxisWord>) -> io::Result<()> {
-    print!(rt; "  {name}:")?;
-    for word in fed.atoms.iter().take(fed.count) {
-        print!(rt; " {word}")?;
-    }
-    println!(rt; " ({} words, {})", fed.count, ending(fed.ended))
+    tell_each(rt, name, fed.atoms().iter())?;
+    println!(rt; " ({} words, {})", fed.atoms().len(), fed.ending())
 }
 
 pub(crate) fn tell_tally(rt: &HostRuntime, fed: &Fed<Count>) -> io::Result<()> {
-    print!(rt; "  passes, words and depth so far:")?;
-    for count in fed.atoms.iter().take(fed.count) {
-        print!(rt; " {}", count.value)?;
-    }
-    println!(rt; " ({})", ending(fed.ended))
-}
-
-pub(crate) fn outcome(answer: Result<(), MemoryFault>) -> &'static str {
-    match answer {
-        Ok(()) => "built",
-        Err(MemoryFault::Full) => "refused, the memory is full",
-        Err(MemoryFault::Scanning) => "refused, the memory is still scanning",
-        Err(_) => "refused",
-    }
-}
-
-pub(crate) fn tell_room(rt: &HostRuntime, name: &str, room: &Room) -> io::Result<()> {
-    println!(rt;
-        "{name}: {} conses granted, {} refused for room",
-        room.granted, room.refused
-    )
+    let values = fed.atoms().iter().map(|count| count.value);
+    tell_each(rt, "passes, words and depth so far", values)?;
+    println!(rt; " ({})", fed.ending())
 }

@@ -3,3 +3,4 @@
 
 pub mod anew;
 pub mod aside;
+pub mod held;
