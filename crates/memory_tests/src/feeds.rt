@@ -18,8 +18,8 @@ mod tests {
         atoms: &[A],
     ) -> Result<(), MemoryFault> {
         memory.clear(0)?;
-        for i in 0..atoms.len() {
-            memory.set(1, atoms[atoms.len() - 1 - i])?;
+        for atom in atoms.iter().rev() {
+            memory.set(1, *atom)?;
             memory.cons(0, 1, 0)?;
         }
         Ok(())

@@ -1,51 +1,21 @@
 // Runs of hold and back. A token is never let go, so each helper takes its own to a back that is surely granted.
 ghost use Rattle.std.specs.Prelude.{◌≡◌, ◌<◌, true, is_some};
 ghost use Rattle.machine.specs.Holds.{hold_at};
-ghost use Rattle.memory.specs.Steps.{SameHolds};
-ghost use Rattle.memory.specs.Tokens.{Held};
 
 #[cfg(test)]
 mod tests {
     use atom::count::Count;
     use atom::kind::Atom;
+    use hold_uses::held::restore;
     use machine::faults::MemoryFault;
     use machine::sight::Sight;
     use memory::memory::ListMemory;
-    use memory::token::{Kept, Token};
+    use memory::token::Kept;
     use std::test::Fail;
     use store::bytes::ByteStore;
     use store::words::Store;
 
-    // Gives back what is surely held.
-    fn restore<S: Store, A: Atom>(memory: &mut ListMemory<S, A>, d: usize, token: Token)
-        requires { (d < 16) × (Held memory.old token) }
-    {
-        match memory.back(d, token) {
-            Ok(()) => (),
-            Err(_) => unreachable(),
-        }
-    }
-
-    fn clear<S: Store, A: Atom>(memory: &mut ListMemory<S, A>, r: usize) -> Result<(), MemoryFault>
-        ensures { SameHolds memory.old memory.new }
-    {
-        memory.clear(r)
-    }
-
-    fn clear_and_restore<S: Store, A: Atom>(
-        memory: &mut ListMemory<S, A>,
-        r: usize,
-        d: usize,
-        token: Token,
-    ) -> Result<(), MemoryFault>
-        requires { (d < 16) × (Held memory.old token) }
-    {
-        let cleared = clear(memory, r);
-        restore(memory, d, token);
-        cleared
-    }
-
-    // Holds r at p, clears r and gives the word back to d.
+    // Holds r at p, clears r and gives the word back to d, however the clearing went.
     fn set_aside<S: Store, A: Atom>(
         memory: &mut ListMemory<S, A>,
         r: usize,
@@ -55,7 +25,9 @@ mod tests {
         requires { d < 16 }
     {
         let token = memory.hold(r, p)?;
-        clear_and_restore(memory, r, d, token)
+        let cleared = memory.clear(r);
+        restore(memory, d, token);
+        cleared
     }
 
     // What a hold of a taken place is refused with.
@@ -73,19 +45,6 @@ mod tests {
         }
     }
 
-    fn try_and_restore<S: Store, A: Atom>(
-        memory: &mut ListMemory<S, A>,
-        r: usize,
-        p: usize,
-        token: Token,
-    ) -> MemoryFault
-        requires { (r < 16) × ((is_some (hold_at memory.old p) ≡ true) × (Held memory.old token)) }
-    {
-        let fault = hold_taken(memory, r, p);
-        restore(memory, r, token);
-        fault
-    }
-
     // Holds r at p, and there again.
     fn hold_again<S: Store, A: Atom>(
         memory: &mut ListMemory<S, A>,
@@ -93,28 +52,12 @@ mod tests {
         p: usize,
     ) -> Result<MemoryFault, MemoryFault> {
         let token = memory.hold(r, p)?;
-        Ok(try_and_restore(memory, r, p, token))
+        let fault = hold_taken(memory, r, p);
+        restore(memory, r, token);
+        Ok(fault)
     }
 
-    // Offers a token to another memory first.
-    fn offer<S: Store, A: Atom>(
-        memory: &mut ListMemory<S, A>,
-        other: &mut ListMemory<S, A>,
-        d: usize,
-        token: Token,
-    ) -> Result<(), MemoryFault>
-        requires { (d < 16) × (Held memory.old token) }
-    {
-        match other.back(d, token) {
-            Ok(()) => Ok(()),
-            Err(kept) => {
-                let Kept { fault, token } = kept;
-                restore(memory, d, token);
-                Err(fault)
-            }
-        }
-    }
-
+    // Offers the token of r's hold at p to another memory first.
     fn hold_and_offer<S: Store, A: Atom>(
         memory: &mut ListMemory<S, A>,
         other: &mut ListMemory<S, A>,
@@ -122,7 +65,13 @@ mod tests {
         p: usize,
     ) -> Result<(), MemoryFault> {
         let token = memory.hold(r, p)?;
-        offer(memory, other, r, token)
+        match other.back(r, token) {
+            Ok(()) => Ok(()),
+            Err(Kept { fault, token }) => {
+                restore(memory, r, token);
+                Err(fault)
+            }
+        }
     }
 
     #[test]

@@ -70,8 +70,8 @@ mod tests {
         let opened = memory.open(1, 1, 1);
         let set = memory.set(0, AxisWord::T(3));
         let mut numbers = [0; 11];
-        for i in 0..10 {
-            numbers[i] = number(memory.cons(1, 0, 1));
+        for n in numbers.iter_mut().take(10) {
+            *n = number(memory.cons(1, 0, 1));
         }
         let cleared = memory.clear(1);
         numbers[10] = number(memory.cons(1, 0, 1));
