@@ -25,6 +25,17 @@ mod tests {
         Ok(())
     }
 
+    // A memory over two banks, with the list of two words in register 0.
+    fn over_banks<'a>(
+        even: &'a mut [u32],
+        odd: &'a mut [u32],
+    ) -> Result<ListMemory<BankStore<'a>, AxisWord>, MemoryFault> {
+        let mut memory = ListMemory::new(BankStore::new(even, odd));
+        memory.open(1, 4, 1)?;
+        put_list(&mut memory, &[AxisWord::X(1500), AxisWord::T(3)])?;
+        Ok(memory)
+    }
+
     #[test]
     fn feed_of_counts(rt: HostRuntime) -> Result<(), Fail> {
         let mut bytes = [0; 256];
@@ -46,11 +57,7 @@ mod tests {
     fn feed_of_axis_words(rt: HostRuntime) -> Result<(), Fail> {
         let mut even = [0; 32];
         let mut odd = [0; 32];
-        let mut memory: ListMemory<BankStore, AxisWord> = ListMemory::new(BankStore::new(
-            &mut even, &mut odd,
-        ));
-        memory.open(1, 4, 1)?;
-        put_list(&mut memory, &[AxisWord::X(1500), AxisWord::T(3)])?;
+        let mut memory = over_banks(&mut even, &mut odd)?;
         let mut none = [];
         assert_eq!(rt; memory.feed(0, 0, &mut none), Ok((0, false)));
         assert_eq!(rt; memory.feed(1, 0, &mut none), Ok((0, false)));
@@ -73,11 +80,7 @@ mod tests {
     fn feed_stops_at_what_it_cannot_take(rt: HostRuntime) -> Result<(), Fail> {
         let mut even = [0; 32];
         let mut odd = [0; 32];
-        let mut memory: ListMemory<BankStore, AxisWord> = ListMemory::new(BankStore::new(
-            &mut even, &mut odd,
-        ));
-        memory.open(1, 4, 1)?;
-        put_list(&mut memory, &[AxisWord::X(1500), AxisWord::T(3)])?;
+        let mut memory = over_banks(&mut even, &mut odd)?;
         memory.cons(2, 0, 0)?;
         memory.cons(2, 1, 2)?;
         memory.cons(3, 1, 1)?;
