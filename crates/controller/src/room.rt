@@ -29,8 +29,9 @@ impl Room {
     {
         match answer {
             Ok(()) => self.granted = self.granted.saturating_add(1),
-            Err(MemoryFault::Scanning) => self.refused = self.refused.saturating_add(1),
-            Err(MemoryFault::Full) => self.refused = self.refused.saturating_add(1),
+            Err(MemoryFault::Scanning | MemoryFault::Full) => {
+                self.refused = self.refused.saturating_add(1);
+            }
             Err(_) => (),
         }
     }

@@ -24,7 +24,6 @@ pub fn set_aside<S: Store, A: Atom>(
             let token = memory.hold(r, p)?;
             Ok(Some(token))
         }
-        Sight::Nil => Ok(None),
-        Sight::Atom(_) => Ok(None),
+        Sight::Nil | Sight::Atom(_) => Ok(None),
     }
 }

@@ -1,4 +1,4 @@
-// What is surely held is given back.
+// What is surely held is given back. No closure for the work between: it would owe a clause that it keeps the holds.
 ghost use Rattle.machine.specs.Holds.{back_call};
 ghost use Rattle.memory.specs.Tokens.{Held, pass_of};
 ghost use Rattle.std.specs.Prelude.{◌≡◌, ◌<◌};
