@@ -1,6 +1,5 @@
 // One command, or one line, obeyed on a list memory.
 ghost use Rattle.answer.specs.declared.answer.Answer.TheVariants as answered;
-ghost use Rattle.memory.specs.View.{machine};
 ghost use Rattle.session.specs.Obeyed.{given, obeyed, reaction};
 ghost use Rattle.std.specs.Prelude.{◌≡◌};
 
@@ -26,8 +25,8 @@ pub fn obey<S: Store>(
     memory: &mut ListMemory<S, AxisWord>,
     command: Command,
 ) -> Result<Answer, MemoryFault>
-    ensures answer { result ≡ (obeyed (machine S.words memory.old) command).answer }
-    ensures after { machine S.words memory.new ≡ (obeyed (machine S.words memory.old) command).after }
+    ensures answer { result ≡ (obeyed memory.old command).answer }
+    ensures after { memory.new ≡ (obeyed memory.old command).after }
 {
     match command {
         Command::Open(pace, limit) => done(memory.open(pace, limit, NUMBER)),
@@ -49,8 +48,8 @@ pub fn respond<S: Store>(
     memory: &mut ListMemory<S, AxisWord>,
     line: &[u8],
 ) -> Result<Answer, ConsoleFault>
-    ensures answer { result ≡ (reaction (machine S.words memory.old) line.now).answer }
-    ensures after { machine S.words memory.new ≡ (reaction (machine S.words memory.old) line.now).after }
+    ensures answer { result ≡ (reaction memory.old line.now).answer }
+    ensures after { memory.new ≡ (reaction memory.old line.now).after }
 {
     Ok(obey(memory, parse(line)?)?)
 }

@@ -1,5 +1,4 @@
 // A whole text: the transcript of its lines.
-ghost use Rattle.memory.specs.View.{machine};
 ghost use Rattle.session.specs.Transcript.{machine_after, transcript};
 ghost use Rattle.std.specs.Prelude.{◌≡◌, IfOk, string_bytes, OnOk};
 ghost use Rattle.words.specs.Pieces.{lines_of};
@@ -19,8 +18,8 @@ pub fn session<S: Store>(
     memory: &mut ListMemory<S, AxisWord>,
     text: &[u8],
 ) -> Result<String, AllocError>
-    ensures answer { IfOk result (λ s. string_bytes s ≡ transcript 1 (machine S.words memory.old) (lines_of text.now)) }
-    ensures after { OnOk result (machine S.words memory.new ≡ machine_after (machine S.words memory.old) (lines_of text.now)) }
+    ensures answer { IfOk result (λ s. string_bytes s ≡ transcript 1 memory.old (lines_of text.now)) }
+    ensures after { OnOk result (memory.new ≡ machine_after memory.old (lines_of text.now)) }
 {
     let mut out = String::new(heap);
     for (index, line) in Lines::new(text).enumerate() {
