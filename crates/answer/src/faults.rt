@@ -16,6 +16,7 @@ pub enum ConsoleFault {
     Memory(MemoryFault),
 }
 
+// By hand: clauses name the fault that comes of it, and a derived conversion tells them nothing.
 impl From<MemoryFault> for ConsoleFault {
     ghost from_gives = { λ m f. f ≡ fault.Memory m };
 

@@ -16,6 +16,7 @@ pub enum Layer {
 // A refusal's number, its layer and the place it names: a register, a store place, a column, or 0.
 #[derive(Clone, Copy, PartialEq, Eq, Debug)]
 pub struct Report {
+    // a number, since users are told it; in code each refusal is a case of its layer's fault
     pub number: u32,
     pub layer: Layer,
     pub place: usize,

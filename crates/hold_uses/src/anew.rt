@@ -16,6 +16,7 @@ pub struct Stopped {
     pub token: Option<Token>,
 }
 
+// By hand: clauses name the stop that comes of it, and a derived conversion tells them nothing.
 impl From<MemoryFault> for Stopped {
     ghost from_gives = { λ f s. s ≡ record { fault = f; token = None } };
 

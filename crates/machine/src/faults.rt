@@ -33,6 +33,7 @@ pub enum MemoryFault {
     NotAtom(usize),
 }
 
+// By hand, as every conversion of a fault that clauses name: a derived one tells them nothing.
 impl From<KindFault> for MemoryFault {
     ghost from_gives = { λ k f. f ≡ fault.Kind k };
 

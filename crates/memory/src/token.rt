@@ -7,6 +7,7 @@ use machine::faults::MemoryFault;
 pub struct Token {
     number: u32,
     place: usize,
+    // a flag and no type of its own: `drop` takes the token itself, and asks for it
     spent: bool,
     ghost there: { place < 8 },
 }

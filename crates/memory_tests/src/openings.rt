@@ -11,7 +11,7 @@ mod tests {
     use store::bytes::ByteStore;
     use write_back::WriteBack;
 
-    // The number of a refusal, or 0.
+    // The number of a refusal, or 0: the worked values are told as such numbers.
     fn number(answer: Result<(), MemoryFault>) -> u32 {
         match answer {
             Ok(()) => 0,

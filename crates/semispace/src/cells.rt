@@ -1,4 +1,4 @@
-// Words and cells in a store. What lies past the store's end reads as 0 and is not written.
+// Words and cells in a store. Cells are numbered and not boxed: the store is lent, and there is no heap. What lies past the store's end reads as 0 and is not written.
 ghost use Rattle.std.specs.Prelude.{◌≡◌, ◌+◌, ◌*◌, ◌≤◌, slice_index, slice_set};
 ghost use Rattle.machine.specs.Words.{refer, refers_into, is_reference, cell_of, place_of, cell_at, put_cell};
 

@@ -3,6 +3,7 @@ ghost use Rattle.std.specs.Prelude.{◌≡◌, length, replicate, None};
 
 #[derive(Drop)]
 pub struct Roots {
+    // arrays, since the memory has no heap and 24 roots
     pub(crate) registers: [u32; 16],
     pub(crate) holds: [Option<u32>; 8],
     ghost sized: { (length registers ≡ 16) × (length holds ≡ 8) },

@@ -8,6 +8,7 @@ use std::marker::Model;
 
 #[derive(Drop)]
 pub struct BankStore<'a> {
+    // two slices side by side, since the banks are lent as two
     even: &'a mut [u32],
     odd: &'a mut [u32],
 }

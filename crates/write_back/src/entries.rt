@@ -16,6 +16,7 @@ pub struct Late {
 
 #[derive(Drop)]
 pub struct Entries {
+    // an array and no map: the memory has no heap
     late: [Option<Late>; 8],
 }
 

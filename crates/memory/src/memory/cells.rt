@@ -54,6 +54,7 @@ impl<S: Store, A: Atom> ListMemory<S, A> {
         Ok(())
     }
 
+    // By name as macros have them: car and cdr are one fetch, rplaca and rplacd one replace.
     pub fn car(&mut self, d: usize, r: usize) -> Result<(), MemoryFault>
         ensures answer { result ≡ (fetch_call Head self.old d r).answer }
         ensures after { self.new ≡ (fetch_call Head self.old d r).after }

@@ -37,7 +37,7 @@ impl<S: Store, A: Atom> ListMemory<S, A> {
         }
     }
 
-    // Fills the buffer until the list in r ends or the buffer is full.
+    // Fills the buffer until the list in r ends or the buffer is full: a pair of count and end flag, the fixed form of a feed's answer.
     fn walk(&mut self, r: usize, buffer: &mut [A]) -> Result<(usize, bool), MemoryFault>
         requires { r < 16 }
         ensures answer { result ≡ (walk A.meant r (length buffer.old) 0 self.old buffer.old).answer }
@@ -54,7 +54,7 @@ impl<S: Store, A: Atom> ListMemory<S, A> {
         Ok((buffer.len(), self.space.register(r) == 0))
     }
 
-    // Gives back to r what was held: a back that is not refused.
+    // Gives back to r what was held: a back that is not refused. Callers have the like in a crate above, since no public call here asks anything of them.
     fn restore(&mut self, r: usize, token: Token)
         requires { (r < 16) × (Held self.old token) }
         ensures { self.new ≡ (back_call self.old r (pass_of token)).after }
@@ -65,24 +65,7 @@ impl<S: Store, A: Atom> ListMemory<S, A> {
         }
     }
 
-    // Walks the list in r and gives r back, however the walk went.
-    fn feed_held(
-        &mut self,
-        r: usize,
-        token: Token,
-        buffer: &mut [A],
-    ) -> Result<(usize, bool), MemoryFault>
-        requires { (r < 16) × (Held self.old token) }
-        ensures answer { result ≡ (walk A.meant r (length buffer.old) 0 self.old buffer.old).answer }
-        ensures after { self.new ≡ (back_call (walk A.meant r (length buffer.old) 0 self.old buffer.old).after r (pass_of token)).after }
-        ensures buffer { buffer.new ≡ (walk A.meant r (length buffer.old) 0 self.old buffer.old).buffer }
-    {
-        let answer = self.walk(r, buffer);
-        self.restore(r, token);
-        answer
-    }
-
-    // The list's register is held while it walks.
+    // The list's register is held while it walks, and given back however the walk went.
     pub fn feed(
         &mut self,
         r: usize,
@@ -94,6 +77,8 @@ impl<S: Store, A: Atom> ListMemory<S, A> {
         ensures buffer { buffer.new ≡ (feed_call A.meant self.old r p buffer.old).buffer }
     {
         let token = self.hold(r, p)?;
-        self.feed_held(r, token, buffer)
+        let answer = self.walk(r, buffer);
+        self.restore(r, token);
+        answer
     }
 }

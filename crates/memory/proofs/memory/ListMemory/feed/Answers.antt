@@ -26,9 +26,10 @@ returns g c =
     let told = ap passed (sym c.in_ok-token.was) ∙ c.hold.ensures.answer in
     let put = ap (λ m. is_some (hold_at m c.in_ok-token.token.place)) (sym c.hold.ensures.after) ∙ c.in_ok-token.ensures.held.2 in
     let all = feed_held g.A.Atom.meant before c.args.r c.args.p c.args.buffer.now (pass_of c.in_ok-token.token) put told in
-    let held = ap (λ m. walk g.A.Atom.meant c.args.r (length c.args.buffer.now) 0 m c.args.buffer.now) c.hold.ensures.after in
+    let walked = λ (m : Machine). walk g.A.Atom.meant c.args.r (length c.args.buffer.now) 0 m c.args.buffer.now in
+    let pass = pass_of c.in_ok-token.token in
     record {
-      answer = c.feed_held.ensures.answer ∙ ap (λ w. w.answer) held ∙ sym (ap (λ w. w.answer) all);
-      after = c.feed_held.ensures.after ∙ ap (λ w. (back_call w.after c.args.r (pass_of c.in_ok-token.token)).after) held ∙ sym (ap (λ w. w.after) all);
-      buffer = c.feed_held.ensures.buffer ∙ ap (λ w. w.buffer) held ∙ sym (ap (λ w. w.buffer) all);
+      answer = c.walk-answer.ensures.answer ∙ ap (λ m. (walked m).answer) c.hold.ensures.after ∙ sym (ap (λ w. w.answer) all);
+      after = c.restore.ensures ∙ ap (λ m. (back_call m c.args.r pass).after) c.walk-answer.ensures.after ∙ ap (λ m. (back_call (walked m).after c.args.r pass).after) c.hold.ensures.after ∙ sym (ap (λ w. w.after) all);
+      buffer = c.walk-answer.ensures.buffer ∙ ap (λ m. (walked m).buffer) c.hold.ensures.after ∙ sym (ap (λ w. w.buffer) all);
     }
