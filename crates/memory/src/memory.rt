@@ -18,6 +18,7 @@ pub mod holds;
 pub mod registers;
 
 // In contracts, a machine: what is kept, with what the store means.
+// Each call says how much it collected (`bounded`): a fact of the states before and after, which no type can carry.
 #[derive(Drop)]
 pub struct ListMemory<S: Store, A: Atom> {
     space: Semispace<S>,
@@ -51,6 +52,7 @@ impl<S: Store, A: Atom> ListMemory<S, A> {
         space.into_store()
     }
 
+    // Three numbers and no struct of them: any may be given, and each is refused by a rule of its own.
     // Once it is granted, the memory answers as the ledger does, whatever is called from then on.
     pub fn open(&mut self, pace: usize, limit: usize, number: u32) -> Result<(), MemoryFault>
         ensures answer { result ≡ (open_call self.old pace limit number).answer }
