@@ -7,7 +7,7 @@ use atom::kind::Atom;
 // the longest list that is fed
 pub const LONGEST: usize = 12;
 
-// The first places of a buffer that was fed into, and how the feed stopped.
+// The first places of a buffer that was fed into, and how the feed stopped. No `ArrayVec`: it shortens only what has a default.
 #[derive(Drop)]
 pub struct Fed<A> {
     pub(super) buffer: [A; LONGEST],
