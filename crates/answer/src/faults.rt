@@ -10,7 +10,7 @@ use words::misread::Misread;
 
 #[derive(Clone, Copy, PartialEq, Eq, Debug)]
 pub enum ConsoleFault {
-    // the column of the first word not understood, missing or left over
+    // the column of the first word not understood, missing or left over, or where a line grows too long
     Column(usize),
     // the memory's own refusal
     Memory(MemoryFault),

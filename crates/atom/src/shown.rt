@@ -1,8 +1,10 @@
-// Axis words as text: the letter and the number.
+// Atoms as text: an axis word by its letter and number, a count by its number.
 ghost use Rattle.atom.specs.Shown.{axis_text};
+ghost use Rattle.std.specs.Fmt.{signed_decimal};
 ghost use Rattle.std.specs.Prelude.{Some};
 
 use super::axis::AxisWord;
+use super::count::Count;
 use std::fmt;
 
 impl fmt::Display for AxisWord {
@@ -16,5 +18,13 @@ impl fmt::Display for AxisWord {
             AxisWord::D(milliseconds) => write!(f, "D{milliseconds}"),
             AxisWord::T(tool) => write!(f, "T{tool}"),
         }
+    }
+}
+
+impl fmt::Display for Count {
+    ghost output = { λ c. Some (signed_decimal c.value) };
+
+    fn fmt<W: fmt::Write>(&self, f: &mut fmt::Formatter<W>) -> fmt::Result {
+        write!(f, "{}", self.value)
     }
 }

@@ -11,7 +11,7 @@ use words::reader::Words;
 
 const LONGEST: usize = 64;
 
-// An Err has the column of the first word not understood, missing or left over.
+// An Err has the column of the first word not understood, missing or left over; in a line too long to be read, one past the longest.
 pub fn parse(line: &[u8]) -> Result<Command, Misread>
     ensures answer { result ≡ parsed line.now }
 {

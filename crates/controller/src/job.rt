@@ -64,7 +64,9 @@ impl<S: Store, T: Store> Job<S, T> {
     // Drops the last tally for the next: passes done, words fed in all, and the depth.
     fn tally(&mut self, pass: u8, words: usize) -> Result<Fed<Count>, MemoryFault> {
         let counts = [
-            Count { value: pass as i32 },
+            Count {
+                value: i32::from(pass),
+            },
             Count {
                 value: i32::try_from(words).unwrap_or(i32::MAX),
             },

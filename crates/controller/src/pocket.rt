@@ -10,12 +10,12 @@ pub const DOWN: usize = 4;
 
 // A millimetre more with each pass.
 pub(crate) fn depth(pass: u8) -> i32 {
-    -1000 * pass as i32
+    -1000 * i32::from(pass)
 }
 
 // The tool has worn by five micrometres a pass.
 pub(crate) fn worn_depth(pass: u8) -> i32 {
-    -1005 * pass as i32
+    -1005 * i32::from(pass)
 }
 
 // One pass: the tool and its dwell, the corner, down, and rows to and fro.
@@ -50,7 +50,7 @@ pub(crate) fn retract() -> [AxisWord; 4] {
 
 // A corner of a square spiral, X before Y.
 fn corner(i: u8) -> AxisWord {
-    let reach = 250 * (i / 2) as i32;
+    let reach = 250 * i32::from(i / 2);
     let target = if i % 4 < 2 { reach } else { -reach };
     if i % 2 == 0 {
         AxisWord::X(target)

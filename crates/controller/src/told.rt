@@ -48,7 +48,6 @@ pub(crate) fn tell_moves(rt: &HostRuntime, name: &str, fed: &Fed<AxisWord>) -> i
 }
 
 pub(crate) fn tell_tally(rt: &HostRuntime, fed: &Fed<Count>) -> io::Result<()> {
-    let values = fed.atoms().iter().map(|count| count.value);
-    tell_each(rt, "passes, words and depth so far", values)?;
+    tell_each(rt, "passes, words and depth so far", fed.atoms().iter())?;
     println!(rt; " ({})", fed.ending())
 }

@@ -13,7 +13,7 @@ pub enum Layer {
     Console,
 }
 
-// A refusal's number, its layer and the place it names: a register, a store place, a column, or 0.
+// A refusal's number, its layer and the place it names: a register, a store place, a column, or 0 where it names nothing, which users are told too.
 #[derive(Clone, Copy, PartialEq, Eq, Debug)]
 pub struct Report {
     // a number, since users are told it; in code each refusal is a case of its layer's fault

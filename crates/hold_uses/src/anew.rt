@@ -37,6 +37,7 @@ impl From<Kept> for Stopped {
     }
 }
 
+// Two steps of their own, as the definitions have them, each with its kind of refusal.
 #[tactic(auto, unfolding(crate::specs::Anew::taking))]
 fn take<S: Store, A: Atom>(
     memory: &mut ListMemory<S, A>,

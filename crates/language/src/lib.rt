@@ -4,29 +4,21 @@
 ghost use Rattle.language.specs.Laws.{WordsRejoin, LinesReturn, SpellingDecides, CommandsReturn};
 
 #[tactic(auto, using(crate::proofs::Words::words_make_the_line, crate::proofs::Words::words_have_no_space, crate::proofs::Words::words_cut_again))]
-pub fn words_rejoin() -> u8
+pub fn words_rejoin()
     ensures answer { WordsRejoin }
-{
-    0
-}
+{}
 
 #[tactic(auto, using(crate::proofs::Lines::lines_cut_again))]
-pub fn lines_return() -> u8
+pub fn lines_return()
     ensures answer { LinesReturn }
-{
-    0
-}
+{}
 
 #[tactic(auto, using(crate::proofs::Spelling::spelling_decides))]
-pub fn spelling_decides() -> u8
+pub fn spelling_decides()
     ensures answer { SpellingDecides }
-{
-    0
-}
+{}
 
 #[tactic(auto, using(crate::proofs::Commands::commands_return))]
-pub fn commands_return() -> u8
+pub fn commands_return()
     ensures answer { CommandsReturn }
-{
-    0
-}
+{}

@@ -17,7 +17,7 @@ pub enum MemoryFault {
     // the limit is 0, or leaves too little room to collect in
     Limit,
     NoRegister(usize),
-    // the register that has to refer to a cell does not
+    // a register that has to refer to a cell does not; in a feed, names how many atoms were written
     NotCell(usize),
     // the atom kind's own refusal
     Kind(KindFault),

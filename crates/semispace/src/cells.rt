@@ -5,6 +5,9 @@ ghost use Rattle.machine.specs.Words.{refer, refers_into, is_reference, cell_of,
 use machine::side::Side;
 use store::words::Store;
 
+// The word of nil. Words are bare numbers, as the store has them and a copy takes them along.
+pub const NIL: u32 = 0;
+
 // The least word that refers to a cell.
 const REFERENCE: u32 = 2147483648;
 
@@ -58,7 +61,7 @@ pub fn put_word<S: Store>(store: &mut S, place: usize, word: u32)
     let _ = store.write(place, word);
 }
 
-// A cell's two words travel as a pair.
+// A cell's two words travel as a pair, as in the definitions.
 pub(crate) fn cell_at<S: Store>(store: &S, cell: usize) -> (u32, u32)
     requires { cell ≤ 2147483648 }
     ensures { result ≡ cell_at (S.words store.now) cell }

@@ -1,4 +1,5 @@
-// The marks of the current half. Their order is part of the type, so they are always written whole.
+// The marks of the current half. Their order is part of the type, and each step makes them anew, whole.
+// The definitions' record has plain numbers; this one has the machine's, with their bounds.
 use std::marker::Model;
 
 pub mod steps;

@@ -1,5 +1,6 @@
 // A store with its two halves, and what is kept beside it: in contracts, one machine.
 ghost use Rattle.machine.specs.Machine.{shut_machine};
+ghost use Rattle.semispace.specs.Formed.{Formed};
 ghost use Rattle.std.specs.Prelude.{◌≡◌};
 
 use super::half::Half;
@@ -51,6 +52,14 @@ impl<S: Store> Semispace<S> {
                 opened: false,
             },
         }
+    }
+
+    // What the fields of every value keep to, for contracts to name.
+    fn formed(&self)
+        ensures { Formed self.now }
+    {
+        let _size = self.state.marks.size;
+        let _pace = self.state.terms.pace;
     }
 
     // The store, as it stands.

@@ -39,6 +39,7 @@ impl<'a> Store for BankStore<'a> {
         2 * self.even.len().min(self.odd.len())
     }
 
+    // the bank is picked here and in `write`: a helper for both would lend out half of a store
     fn read(&self, place: usize) -> Result<u32, StoreFault> {
         inside(place, self.size())?;
         Ok(match place % 2 {

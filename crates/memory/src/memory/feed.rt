@@ -11,18 +11,17 @@ use crate::token::Token;
 use atom::kind::Atom;
 use machine::faults::MemoryFault;
 use machine::side::Side;
-use semispace::cells::place_of;
+use semispace::cells::{NIL, place_of};
 use store::words::Store;
 
 impl<S: Store, A: Atom> ListMemory<S, A> {
     // The next atom of the list in r, or none at its end. A refusal names how many went before.
     fn next(&mut self, r: usize, n: usize) -> Result<Option<A>, MemoryFault>
-        requires { r < 16 }
         ensures answer { result ≡ (next_call A.meant self.old r n).answer }
         ensures after { self.new ≡ (next_call A.meant self.old r n).after }
     {
         let word = self.space.register(r);
-        if word == 0 {
+        if word == NIL {
             return Ok(None);
         }
         need_cell(n, word)?;
@@ -39,7 +38,6 @@ impl<S: Store, A: Atom> ListMemory<S, A> {
 
     // Fills the buffer until the list in r ends or the buffer is full: a pair of count and end flag, the fixed form of a feed's answer.
     fn walk(&mut self, r: usize, buffer: &mut [A]) -> Result<(usize, bool), MemoryFault>
-        requires { r < 16 }
         ensures answer { result ≡ (walk A.meant r (length buffer.old) 0 self.old buffer.old).answer }
         ensures after { self.new ≡ (walk A.meant r (length buffer.old) 0 self.old buffer.old).after }
         ensures buffer { buffer.new ≡ (walk A.meant r (length buffer.old) 0 self.old buffer.old).buffer }
@@ -51,7 +49,7 @@ impl<S: Store, A: Atom> ListMemory<S, A> {
                 None => return Ok((n, true)),
             }
         }
-        Ok((buffer.len(), self.space.register(r) == 0))
+        Ok((buffer.len(), self.space.register(r) == NIL))
     }
 
     // Gives back to r what was held: a back that is not refused. Callers have the like in a crate above, since no public call here asks anything of them.

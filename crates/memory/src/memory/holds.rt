@@ -52,6 +52,7 @@ impl<S: Store, A: Atom> ListMemory<S, A> {
         ensures after { self.new ≡ (back_call self.old d (pass_of token)).after }
         ensures bounded { NoWork self.old self.new }
     {
+        // no closure: it would take the token along where the call goes on
         if let Err(fault) = self.space.admit(&[d]) {
             return Err(Kept { fault, token });
         }

@@ -2,20 +2,21 @@
 ghost use Rattle.machine.specs.Calls.{set_call, load_call, clear_call, look_call, same_call};
 ghost use Rattle.machine.specs.Words.{sight_of};
 ghost use Rattle.machine.specs.Work.{NoWork};
+ghost use Rattle.semispace.specs.Formed.{Formed};
 ghost use Rattle.std.specs.Prelude.{◌≡◌};
 
 use super::ListMemory;
 use atom::kind::Atom;
 use machine::faults::MemoryFault;
 use machine::sight::Sight;
-use semispace::cells::is_reference;
+use semispace::cells::{NIL, is_reference};
 use store::words::Store;
 
 // What a word shows.
 fn sight<A: Atom>(word: u32) -> Sight<A>
     ensures { result ≡ sight_of A.meant word }
 {
-    if word == 0 {
+    if word == NIL {
         return Sight::Nil;
     }
     if is_reference(word) {
@@ -51,12 +52,14 @@ impl<S: Store, A: Atom> ListMemory<S, A> {
         ensures bounded { NoWork self.old self.new }
     {
         self.space.admit(&[d])?;
-        self.space.set_register(d, 0);
+        self.space.set_register(d, NIL);
         Ok(())
     }
 
+    // Tells callers too what is true of every memory.
     pub fn look(&self, r: usize) -> Result<Sight<A>, MemoryFault>
-        ensures { result ≡ (look_call A.meant self.now r).answer }
+        ensures answer { result ≡ (look_call A.meant self.now r).answer }
+        ensures formed { Formed self.now }
     {
         self.space.admit(&[r])?;
         Ok(sight(self.space.register(r)))

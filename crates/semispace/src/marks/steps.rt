@@ -45,7 +45,7 @@ impl Marks {
         ensures { result ≡ room self }
     {
         if self.scan_over() {
-            if self.copied < self.top {
+            if self.has_room() {
                 Ok(())
             } else {
                 Err(MemoryFault::Full)
@@ -57,6 +57,7 @@ impl Marks {
         }
     }
 
+    // Three steps and no common one: each raises another mark, up to another bound.
     // One cell more was scanned.
     pub(crate) fn scanned_one(self) -> Marks
         ensures { result ≡ raise_scanned self }

@@ -48,6 +48,7 @@ impl<S: Store> Semispace<S> {
         }
     }
 
+    // Each array is copied out and put back, since moving its elements takes the whole memory.
     fn move_registers(&mut self)
         ensures { self.new ≡ move_registers self.old }
     {

@@ -56,7 +56,7 @@ impl<S: Store> Semispace<S> {
         }
     }
 
-    // Past it, what the word referred to lies in the current half. A word that does not refer into the other half stays.
+    // Follows a word that refers into the other half; any other stays.
     #[tactic(auto, using(crate::proofs::Moves::moves_by_cases))]
     pub(super) fn move_word(&mut self, word: u32) -> u32
         ensures answer { result ≡ (move self.old.heap word).value }

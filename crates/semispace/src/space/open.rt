@@ -27,7 +27,7 @@ fn check_limit(size: usize, pace: usize, limit: usize) -> Result<(), MemoryFault
 }
 
 impl<S: Store> Semispace<S> {
-    // The store is not written.
+    // The store is not written. Three numbers and no struct of them, as the memory's open takes them.
     pub fn open(&mut self, pace: usize, limit: usize, number: u32) -> Result<(), MemoryFault>
         ensures answer { result ≡ (open_call self.old pace limit number).answer }
         ensures after { self.new ≡ (open_call self.old pace limit number).after }

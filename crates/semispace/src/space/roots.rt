@@ -2,7 +2,7 @@
 ghost use Rattle.machine.specs.Calls.{admitted, known};
 ghost use Rattle.machine.specs.Holds.{hold_at, with_hold};
 ghost use Rattle.machine.specs.Machine.{register, with_register};
-ghost use Rattle.machine.specs.Words.{place_of};
+ghost use Rattle.semispace.specs.Formed.{Formed};
 ghost use Rattle.std.specs.Prelude.{◌≡◌, length};
 
 use super::Semispace;
@@ -26,8 +26,10 @@ fn check_registers(registers: &[usize]) -> Result<(), MemoryFault>
 impl<S: Store> Semispace<S> {
     // Whether the memory is open and has all these registers.
     pub fn admit(&self, registers: &[usize]) -> Result<(), MemoryFault>
-        ensures { result ≡ admitted self.now registers.now }
+        ensures answer { result ≡ admitted self.now registers.now }
+        ensures formed { Formed self.now }
     {
+        self.formed();
         if !self.state.opened {
             return Err(MemoryFault::Shut);
         }
