@@ -1,4 +1,5 @@
 // Words and cells in a store. Cells are numbered and not boxed: the store is lent, and there is no heap. What lies past the store's end reads as 0 and is not written.
+// Bounds in private clauses are the definitions' own numbers, each of another argument: 4,096 cells a half, 2^31 cells in all.
 ghost use Rattle.std.specs.Prelude.{◌≡◌, ◌+◌, ◌*◌, ◌≤◌, slice_index, slice_set};
 ghost use Rattle.machine.specs.Words.{refer, refers_into, is_reference, cell_of, place_of, cell_at, put_cell};
 
