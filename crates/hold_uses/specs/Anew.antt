@@ -51,10 +51,6 @@ pass_out None = None
 abbrev pub stopped_of : Stopped → StoppedPass
 stopped_of stop = record { fault = stop.fault; pass = pass_out stop.token }
 
-abbrev pub taken : Result Token Stopped → Result Pass StoppedPass
-taken (Ok token) = Ok (pass_of token)
-taken (Err stop) = Err (stopped_of stop)
-
 abbrev pub given : Result (Unit {0}) Stopped → Result (Unit {0}) StoppedPass
 given (Ok u) = Ok u
 given (Err stop) = Err (stopped_of stop)

@@ -1,6 +1,5 @@
 // A place that is given back, taken anew and given back again.
-ghost use Rattle.hold_uses.specs.Anew.{taking, giving, twice, taken, given};
-ghost use Rattle.memory.specs.Tokens.{pass_of};
+ghost use Rattle.hold_uses.specs.Anew.{twice, given};
 ghost use Rattle.std.specs.Prelude.{◌≡◌, Some, None};
 
 use atom::kind::Atom;
@@ -37,32 +36,8 @@ impl From<Kept> for Stopped {
     }
 }
 
-// Two steps of their own, as the definitions have them, each with its kind of refusal.
-#[tactic(auto, unfolding(crate::specs::Anew::taking))]
-fn take<S: Store, A: Atom>(
-    memory: &mut ListMemory<S, A>,
-    r: usize,
-    p: usize,
-) -> Result<Token, Stopped>
-    ensures answer { taken result ≡ (taking memory.old r p).answer }
-    ensures after { memory.new ≡ (taking memory.old r p).after }
-{
-    Ok(memory.hold(r, p)?)
-}
-
-#[tactic(auto, unfolding(crate::specs::Anew::giving))]
-fn give<S: Store, A: Atom>(
-    memory: &mut ListMemory<S, A>,
-    d: usize,
-    token: Token,
-) -> Result<(), Stopped>
-    ensures answer { given result ≡ (giving memory.old d (pass_of token)).answer }
-    ensures after { memory.new ≡ (giving memory.old d (pass_of token)).after }
-{
-    Ok(memory.back(d, token)?)
-}
-
 // Puts the word of r into d and into e, each time by way of place p.
+#[tactic(auto, unfolding(crate::specs::Anew::taking, crate::specs::Anew::giving))]
 pub fn hold_twice<S: Store, A: Atom>(
     memory: &mut ListMemory<S, A>,
     r: usize,
@@ -73,8 +48,8 @@ pub fn hold_twice<S: Store, A: Atom>(
     ensures answer { given result ≡ (twice memory.old r p d e).answer }
     ensures after { memory.new ≡ (twice memory.old r p d e).after }
 {
-    let first = take(memory, r, p)?;
-    give(memory, d, first)?;
-    let second = take(memory, r, p)?;
-    give(memory, e, second)
+    let first = memory.hold(r, p)?;
+    memory.back(d, first)?;
+    let second = memory.hold(r, p)?;
+    Ok(memory.back(e, second)?)
 }
