@@ -1,8 +1,7 @@
 -- Every call that makes a list keeps the holds taken.
 use Rattle.std.proofs.Common.{◌≡◌, ℕ, zero, suc, Bool, true, false, cond, List, [], ◌∷◌, get_or, is_some, Some, None, Ok, Err, Option, Result, sym, refl, subst}
-use Rattle.atom.specs.declared.faults.KindFault.{KindFault}
 use Rattle.controller.specs.Keeping.{Keeps}
-use Rattle.machine.specs.Calls.{unless, admitted, done, put_code, set_call, cons_call}
+use Rattle.machine.specs.Calls.{unless, admitted, done, cons_call}
 use Rattle.machine.specs.Heap.{Heap, along, move_hold}
 use Rattle.machine.specs.Machine.{Machine, flip, flip_due, collected, room}
 use Rattle.machine.specs.declared.faults.MemoryFault.{MemoryFault}
@@ -43,16 +42,5 @@ cons_keeps m d a b =
     cons_by (admitted m (d ∷ a ∷ b ∷ [])) (room (collected m).heap.marks) m (collected m) _ k
     (record { opening = k.opening; agreed = k.agreed; taken = k.taken })
 
-set_by : (x : Result (Unit {0}) MemoryFault) (m : Machine) (d : ℕ) (code : Result ℕ KindFault) → Keeps m (unless x m (put_code m d code)).after
-set_by (Err f) m d code = keeps_not m
-set_by (Ok u) m d (Ok c) = record { opening = refl; agreed = refl; taken = λ p. refl }
-set_by (Ok u) m d (Err f) = keeps_not m
-
-set_keeps : (m : Machine) (d : ℕ) (code : Result ℕ KindFault) → Keeps m (set_call m d code).after
-set_keeps m d code = set_by (admitted m (d ∷ [])) m d code
-
 pub cons_kept : (m m' : Machine) (d a b : ℕ) → m' ≡ (cons_call m d a b).after → Keeps m m'
 cons_kept m m' d a b e = subst (Keeps m) (sym e) (cons_keeps m d a b)
-
-pub set_kept : (m m' : Machine) (d : ℕ) (code : Result ℕ KindFault) → m' ≡ (set_call m d code).after → Keeps m m'
-set_kept m m' d code e = subst (Keeps m) (sym e) (set_keeps m d code)

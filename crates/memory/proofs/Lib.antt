@@ -1,3 +1,2 @@
-mod Feeds
 pub mod Holds
 mod Walks
