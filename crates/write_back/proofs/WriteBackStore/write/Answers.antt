@@ -1,13 +1,7 @@
 -- A word kept in its entry is set in the list, and the other place's word that leaves goes down.
-use Rattle.std.proofs.Common.{length-set, Some, None, rules}
-use Rattle.write_back.proofs.Overlaid.{all_below_kept, overlaid_kept}
+use Rattle.std.proofs.Common.{Some, None, rules}
+use Rattle.write_back.proofs.Overlaid.{overlaid_kept}
 use Rattle.write_back.proofs.WriteBackStore.write.Goals as goal
-
-pub invariant_of-self : goal.invariant_of-self
-invariant_of-self g c = rw (c.keep.ensures.after, c.write.ensures.after, length-set) (all_below_kept _ _ _ _ c.self.invariant (search rules))
-
-pub invariant_of-self-in-None : goal.invariant_of-self-in-None
-invariant_of-self-in-None g c = rw c.keep.ensures.after (all_below_kept _ _ _ _ c.self.invariant (search rules))
 
 pub returns-in-Some-clause-after : goal.returns-in-Some-clause-after
 returns-in-Some-clause-after g c =
