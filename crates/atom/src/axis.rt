@@ -20,7 +20,7 @@ pub enum AxisWord {
     T(u32),
 }
 
-// a tag stands above the payload's 24 bits; a move's payload is its target plus 2^23; in code a tag is a case of AxisWord, a number only in words
+// a tag stands above the payload's 24 bits; a move's payload is its target plus 2^23; the tags are numbers as words have them, and the code has a case of AxisWord for each
 const PAYLOADS: u32 = 16_777_216;
 
 const MIDDLE: u32 = 8_388_608;

@@ -18,7 +18,7 @@ pub mod holds;
 pub mod registers;
 
 // In contracts, a machine: what is kept, with what the store means.
-// Each call says how much it collected (`bounded`): a fact of the states before and after, which no type can carry.
+// Each call that changes it, but feed, says how much it collected (`bounded`): a fact of the states before and after, which no type can carry.
 #[derive(Drop)]
 pub struct ListMemory<S: Store, A: Atom> {
     space: Semispace<S>,

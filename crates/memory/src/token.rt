@@ -7,7 +7,7 @@ use machine::faults::MemoryFault;
 pub struct Token {
     number: u32,
     place: usize,
-    // a flag and no type of its own: `drop` takes the token itself, and asks for it
+    // a flag and no type of its own: what may be dropped is the very token that a back has spent
     spent: bool,
     ghost there: { place < 8 },
 }

@@ -1,4 +1,4 @@
-// Runs of hold and back. A token is never let go, so each helper takes its own to a back that is surely granted.
+// Runs of hold and back. A token is never let go, so each helper that has one takes it to a back that is surely granted.
 ghost use Rattle.std.specs.Prelude.{◌≡◌, ◌<◌, true, is_some};
 ghost use Rattle.machine.specs.Holds.{hold_at};
 

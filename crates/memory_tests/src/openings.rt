@@ -69,7 +69,7 @@ mod tests {
         let shut = memory.cons(1, 0, 99);
         let opened = memory.open(1, 1, 1);
         let set = memory.set(0, AxisWord::T(3));
-        // ten pushes, and one once the list was let go
+        // ten pushes, and one once the list was let go: eleven in one array, as the worked run is told
         let mut numbers = [0; 11];
         for n in numbers.iter_mut().take(10) {
             *n = number(memory.cons(1, 0, 1));

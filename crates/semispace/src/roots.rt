@@ -1,5 +1,8 @@
 // Where every walk begins: 16 registers, and 8 hold places, each free or taken with a word.
+// The definitions' record has plain numbers; this one has the machine's, in arrays of fixed length.
 ghost use Rattle.std.specs.Prelude.{◌≡◌, length, replicate, None};
+
+use super::cells::NIL;
 
 #[derive(Drop)]
 pub struct Roots {
@@ -16,7 +19,7 @@ impl Roots {
         ensures holds { result.holds ≡ replicate 8 None }
     {
         Roots {
-            registers: [0; 16],
+            registers: [NIL; 16],
             holds: [None; 8],
         }
     }

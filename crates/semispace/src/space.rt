@@ -54,7 +54,7 @@ impl<S: Store> Semispace<S> {
         }
     }
 
-    // What the fields of every value keep to, for contracts to name.
+    // What the fields of every value keep to, for contracts to name: reading a field makes its type's invariant known.
     fn formed(&self)
         ensures { Formed self.now }
     {

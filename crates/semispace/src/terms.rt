@@ -1,4 +1,4 @@
-// What was agreed at opening.
+// What was agreed at opening. The definitions' record has plain numbers; this one has the machine's, with their bounds.
 ghost use Rattle.machine.specs.Machine.{ceiling};
 ghost use Rattle.std.specs.Prelude.{◌≡◌, ◌≤◌};
 

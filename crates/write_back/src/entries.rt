@@ -58,7 +58,7 @@ impl Entries {
         (old.place != late.place).then_some(old)
     }
 
-    // Sends every late word down. A place outside, which no layer keeps, would be refused there and mean nothing.
+    // Sends every late word down. The store below takes each: a layer keeps no place outside it.
     #[tactic(auto, using(crate::proofs::Overlaid::layers))]
     pub fn send_down<S: Store>(self, below: &mut S)
         ensures after { S.Store.words below.new ≡ overlaid (S.Store.words below.old) self }

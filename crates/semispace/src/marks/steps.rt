@@ -57,7 +57,7 @@ impl Marks {
         }
     }
 
-    // Three steps and no common one: each raises another mark, up to another bound.
+    // Three steps and no common one: each moves another mark by one, as far as another bound.
     // One cell more was scanned.
     pub(crate) fn scanned_one(self) -> Marks
         ensures { result ≡ raise_scanned self }

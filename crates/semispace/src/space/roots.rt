@@ -6,6 +6,7 @@ ghost use Rattle.semispace.specs.Formed.{Formed};
 ghost use Rattle.std.specs.Prelude.{◌≡◌, length};
 
 use super::Semispace;
+use crate::cells::NIL;
 use machine::faults::MemoryFault;
 use store::words::Store;
 
@@ -39,7 +40,7 @@ impl<S: Store> Semispace<S> {
     pub fn register(&self, r: usize) -> u32
         ensures { result ≡ register self.now r }
     {
-        self.state.roots.registers.get(r).copied().unwrap_or(0)
+        self.state.roots.registers.get(r).copied().unwrap_or(NIL)
     }
 
     pub fn set_register(&mut self, d: usize, word: u32)
