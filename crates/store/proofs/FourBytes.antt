@@ -6,6 +6,14 @@ use Rattle.std.specs.Int.{from_be_bytes, to_be_bytes, w32}
 use Rattle.std.specs.Simd.{first_chunks}
 use Rattle.store.specs.Bytes.{byte_words, word_of}
 
+pub length-byte_words : (bytes : List ℕ) → length (byte_words bytes) ≡ length bytes / 4
+unfolding byte_words
+length-byte_words [] = refl
+length-byte_words (a ∷ []) = refl
+length-byte_words (a ∷ b ∷ []) = refl
+length-byte_words (a ∷ b ∷ c ∷ []) = refl
+length-byte_words (a ∷ b ∷ c ∷ d ∷ bytes) = omega (arith, length-byte_words bytes)
+
 four : (a b c d : ℕ) → from_be_bytes w32 (a ∷ b ∷ c ∷ d ∷ []) ≡ word_of a b c d
 four a b c d = omega arith
 
@@ -24,3 +32,5 @@ pub set_chunk : (chunks : List (List ℕ)) (k w : ℕ) →
 set_chunk chunks k w lt =
     map-set (from_be_bytes w32) chunks k (to_be_bytes w32 w)
     ∙ ap (set (map (from_be_bytes w32) chunks) k) (from_be_bytes-to_be_bytes_4 w lt)
+
+pub ruleset whole_words = (words_of_chunks, length-byte_words)

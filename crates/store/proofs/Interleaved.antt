@@ -1,8 +1,9 @@
 -- Two banks read and written in turn: each place of the interleaved list is a slot of one bank.
-use Rattle.std.proofs.Common.{◌≡◌, ℕ, zero, suc, ◌*◌, ◌/◌, ◌%◌, ◌<◌, min, List, [], ◌∷◌, length, get_or, set, refl, ap, arith}
+use Rattle.std.proofs.Common.{◌≡◌, ℕ, zero, suc, ◌*◌, ◌/◌, ◌%◌, ◌<◌, min, List, [], ◌∷◌, length, get_or, set, sym, refl, ap, inl, inr, arith}
+use Rattle.std.proofs.lemmas.Bool.{cases_eq, eq-eqb, ne_eqb}
 use Rattle.std.proofs.lemmas.Bool.Decides.{nat_tests}
 use Rattle.std.proofs.lemmas.List.{set_past}
-use Rattle.store.specs.Banks.{interleaved}
+use Rattle.store.specs.Banks.{interleaved, even_after, odd_after}
 
 pub length-interleaved : (even odd : List ℕ) → length (interleaved even odd) ≡ 2 * min (length even) (length odd)
 unfolding interleaved
@@ -55,4 +56,19 @@ set_odd (x ∷ even) (y ∷ odd) (suc zero) w e = refl
 set_odd (x ∷ even) (y ∷ odd) (suc (suc i)) w e =
     rw (half_on i) (ap (λ ws. x ∷ y ∷ ws) (set_odd even odd i w (omega arith)))
 
-pub ruleset turns = (length-interleaved, get_or_even, get_or_odd, set_even, set_odd, set_past, nat_tests)
+pub set-interleaved : (even odd : List ℕ) (i w : ℕ) →
+    set (interleaved even odd) i w ≡ interleaved (even_after even i w) (odd_after odd i w)
+set-interleaved even odd i w =
+    elim (cases_eq (i % 2) 0) [
+      | inl e ↦ rw (eq-eqb (i % 2) 0 e) (sym (set_even even odd i w e))
+      | inr ne ↦ rw (ne_eqb (i % 2) 0 ne) (sym (set_odd even odd i w (omega arith)))
+    ]
+
+-- a write of a place inside, which is all that a bank store makes
+pub set_within : (even odd : List ℕ) (i w : ℕ) →
+    i / 2 < min (length even) (length odd) → set (interleaved even odd) i w ≡ interleaved (even_after even i w) (odd_after odd i w)
+set_within even odd i w h = set-interleaved even odd i w
+
+pub ruleset turns = (length-interleaved, get_or_even, get_or_odd, nat_tests)
+
+pub ruleset banks_after = (length-interleaved, set_within, set_past, nat_tests)

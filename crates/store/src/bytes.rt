@@ -1,5 +1,5 @@
 // A store over bytes: four a word, most significant first.
-ghost use Rattle.std.specs.Prelude.{◌≡◌};
+ghost use Rattle.std.specs.Prelude.{◌≡◌, ◌/◌, length};
 ghost use Rattle.store.specs.Bytes.{byte_words};
 
 use super::faults::{StoreFault, inside};
@@ -21,10 +21,11 @@ impl<'a> Model for ByteStore<'a> {
     ghost view = { λ s. map (from_be_bytes w32) s.words.now };
 }
 
-#[tactic(auto, using(crate::proofs::FourBytes::words_of_chunks))]
+#[tactic(auto, using(crate::proofs::FourBytes::whole_words))]
 impl<'a> ByteStore<'a> {
     pub fn new(bytes: &'a mut [u8]) -> ByteStore<'a>
         ensures answer { result ≡ byte_words bytes.old }
+        ensures size { length result ≡ length bytes.old / 4 }
     {
         let (words, _) = bytes.as_chunks_mut::<4>();
         ByteStore { words }
