@@ -78,6 +78,7 @@ fn read_signed(text: &[u8]) -> Option<i32>
 // The next word, if it says such a value.
 pub(crate) fn take<V: FromWord>(words: &mut Words<'_>) -> Result<V, Misread>
     ensures answer { took result words.new ≡ take V.said words.old }
+    ensures after { words.new.end ≡ words.old.end }
 {
     let missing = Misread {
         column: words.end(),
