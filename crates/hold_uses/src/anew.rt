@@ -1,5 +1,6 @@
 // A place that is given back, taken anew and given back again.
 ghost use Rattle.hold_uses.specs.Anew.{twice, given};
+ghost use Rattle.semispace.specs.Formed.{FormedThrough};
 ghost use Rattle.std.specs.Prelude.{◌≡◌, Some, None};
 
 use atom::kind::Atom;
@@ -47,6 +48,7 @@ pub fn hold_twice<S: Store, A: Atom>(
 ) -> Result<(), Stopped>
     ensures answer { given result ≡ (twice memory.old r p d e).answer }
     ensures after { memory.new ≡ (twice memory.old r p d e).after }
+    ensures formed { FormedThrough memory.old memory.new }
 {
     let first = memory.hold(r, p)?;
     memory.back(d, first)?;

@@ -1,5 +1,6 @@
 // A token that goes up to the caller.
 ghost use Rattle.hold_uses.specs.Aside.{UnspentUp, aside_call, passed_up};
+ghost use Rattle.semispace.specs.Formed.{FormedThrough};
 ghost use Rattle.std.specs.Prelude.{◌≡◌};
 
 use atom::kind::Atom;
@@ -18,6 +19,7 @@ pub fn set_aside<S: Store, A: Atom>(
     ensures answer { passed_up result ≡ (aside_call A.meant memory.old r p).answer }
     ensures unspent { UnspentUp result }
     ensures after { memory.new ≡ (aside_call A.meant memory.old r p).after }
+    ensures formed { FormedThrough memory.old memory.new }
 {
     match memory.look(r)? {
         Sight::Cell => {

@@ -4,6 +4,7 @@ ghost use Rattle.ledger.specs.Runs.{Order};
 ghost use Rattle.machine.specs.Calls.{open_call};
 ghost use Rattle.machine.specs.Machine.{shut_machine};
 ghost use Rattle.machine.specs.Work.{NoWork};
+ghost use Rattle.semispace.specs.Formed.{Formed, FormedThrough};
 ghost use Rattle.std.specs.Prelude.{◌≡◌, List, Ok};
 
 use atom::kind::Atom;
@@ -44,6 +45,13 @@ impl<S: Store, A: Atom> ListMemory<S, A> {
         }
     }
 
+    // What is true of every memory, whatever was called on it. It does nothing, and tells whoever has one.
+    pub fn formed(&self)
+        ensures { Formed self.now }
+    {
+        self.space.formed();
+    }
+
     // The store, as the memory leaves it.
     pub fn finish(self) -> S
         ensures { S.words result ≡ self.heap.words }
@@ -58,6 +66,7 @@ impl<S: Store, A: Atom> ListMemory<S, A> {
         ensures answer { result ≡ (open_call self.old pace limit number).answer }
         ensures after { self.new ≡ (open_call self.old pace limit number).after }
         ensures bounded { NoWork self.old self.new }
+        ensures formed { FormedThrough self.old self.new }
         ensures law { result ≡ Ok tt → (orders : List (Order A)) → LedgerLaw A.coded A.meant self.new orders }
     {
         self.space.open(pace, limit, number)

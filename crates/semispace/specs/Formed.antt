@@ -12,3 +12,7 @@ pub record Formed (m : Machine) : Type 0 where
   pub paced : 1 ≤ m.terms.pace
   pub pace : m.terms.pace ≤ 64
   pub limit : m.terms.limit ≤ 4096
+
+-- before and after a call
+abbrev pub FormedThrough : Machine → Machine → Type 0
+FormedThrough before after = Formed before × Formed after

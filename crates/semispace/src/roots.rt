@@ -4,11 +4,11 @@ ghost use Rattle.std.specs.Prelude.{◌≡◌, length, replicate, None};
 
 use super::cells::NIL;
 
-#[derive(Drop)]
+#[derive(Clone, Copy)]
 pub struct Roots {
     // arrays, since the memory has no heap and 24 roots
-    pub(crate) registers: [u32; 16],
-    pub(crate) holds: [Option<u32>; 8],
+    pub registers: [u32; 16],
+    pub holds: [Option<u32>; 8],
     ghost sized: { (length registers ≡ 16) × (length holds ≡ 8) },
 }
 

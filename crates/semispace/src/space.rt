@@ -1,13 +1,10 @@
 // A store with its two halves, and what is kept beside it: in contracts, one machine.
 ghost use Rattle.machine.specs.Machine.{shut_machine};
 ghost use Rattle.semispace.specs.Formed.{Formed};
+ghost use Rattle.semispace.specs.View.{machine_of};
 ghost use Rattle.std.specs.Prelude.{◌≡◌};
 
-use super::half::Half;
-use super::marks::Marks;
-use super::roots::Roots;
 use super::state::State;
-use super::terms::Terms;
 use std::marker::Model;
 use store::words::Store;
 
@@ -25,12 +22,11 @@ pub struct Semispace<S: Store> {
 
 impl<S: Store> Model for Semispace<S> {
     ghost use Rattle.machine.specs.Machine.{Machine};
+    ghost use Rattle.semispace.specs.View.{machine_of};
 
     ghost Value = { Machine };
 
-    ghost use Rattle.semispace.specs.View.{is_upper};
-
-    ghost view = { λ s. record { heap = record { words = S.words s.store; upper = is_upper s.state.half; marks = s.state.marks }; roots = record { registers = s.state.roots.registers; holds = s.state.roots.holds }; terms = s.state.terms; opened = s.state.opened } };
+    ghost view = { λ s. machine_of (S.words s.store) s.state };
 }
 
 impl<S: Store> Semispace<S> {
@@ -38,28 +34,28 @@ impl<S: Store> Semispace<S> {
     pub fn new(store: S) -> Self
         ensures { result ≡ shut_machine (S.words store) }
     {
-        Semispace {
-            store,
-            state: State {
-                half: Half::Lower,
-                marks: Marks::empty(0, 0),
-                roots: Roots::empty(),
-                terms: Terms {
-                    pace: 1,
-                    limit: 0,
-                    number: 0,
-                },
-                opened: false,
-            },
-        }
+        Semispace::over(store, State::shut())
     }
 
-    // What the fields of every value keep to, for contracts to name: reading a field makes its type's invariant known.
-    fn formed(&self)
+    // A state put over a store.
+    pub fn over(store: S, state: State) -> Self
+        ensures { result ≡ machine_of (S.words store) state }
+    {
+        Semispace { store, state }
+    }
+
+    // What is kept beside the store, as it stands.
+    pub fn state(&self) -> State
+        ensures { machine_of self.now.heap.words result ≡ self.now }
+    {
+        self.state
+    }
+
+    // What is true of every semispace, whatever was called on it.
+    pub fn formed(&self)
         ensures { Formed self.now }
     {
-        let _size = self.state.marks.size;
-        let _pace = self.state.terms.pace;
+        self.state.formed();
     }
 
     // The store, as it stands.

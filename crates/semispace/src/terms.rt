@@ -7,11 +7,11 @@ use std::marker::Model;
 #[derive(Clone, Copy)]
 pub struct Terms {
     // how many cells a cons scans at most
-    pub(crate) pace: usize,
+    pub pace: usize,
     // how many cells may be in reach
-    pub(crate) limit: usize,
+    pub limit: usize,
     // the memory's number, its opener's choice
-    pub(crate) number: u32,
+    pub number: u32,
 }
 
 impl Model for Terms {

@@ -1,5 +1,6 @@
 // One command, or one line, obeyed on a list memory.
 ghost use Rattle.answer.specs.declared.answer.Answer.TheVariants as answered;
+ghost use Rattle.semispace.specs.Formed.{FormedThrough};
 ghost use Rattle.session.specs.Obeyed.{given, obeyed, reaction};
 ghost use Rattle.std.specs.Prelude.{◌≡◌};
 
@@ -27,6 +28,7 @@ pub fn obey<S: Store>(
 ) -> Result<Answer, MemoryFault>
     ensures answer { result ≡ (obeyed memory.old command).answer }
     ensures after { memory.new ≡ (obeyed memory.old command).after }
+    ensures formed { FormedThrough memory.old memory.new }
 {
     match command {
         Command::Open(pace, limit) => done(memory.open(pace, limit, NUMBER)),
@@ -50,6 +52,8 @@ pub fn respond<S: Store>(
 ) -> Result<Answer, ConsoleFault>
     ensures answer { result ≡ (reaction memory.old line.now).answer }
     ensures after { memory.new ≡ (reaction memory.old line.now).after }
+    ensures formed { FormedThrough memory.old memory.new }
 {
+    memory.formed();
     Ok(obey(memory, parse(line)?)?)
 }

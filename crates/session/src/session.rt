@@ -1,4 +1,5 @@
 // A whole text: the transcript of its lines.
+ghost use Rattle.semispace.specs.Formed.{FormedThrough};
 ghost use Rattle.session.specs.Transcript.{machine_after, transcript};
 ghost use Rattle.std.specs.Prelude.{◌≡◌, IfOk, string_bytes, OnOk};
 ghost use Rattle.words.specs.Pieces.{lines_of};
@@ -20,7 +21,9 @@ pub fn session<S: Store>(
 ) -> Result<String, AllocError>
     ensures answer { IfOk result (λ s. string_bytes s ≡ transcript 1 memory.old (lines_of text.now)) }
     ensures after { OnOk result (memory.new ≡ machine_after memory.old (lines_of text.now)) }
+    ensures formed { FormedThrough memory.old memory.new }
 {
+    memory.formed();
     let mut out = String::new(heap);
     for (index, line) in Lines::new(text).enumerate() {
         let reply = Reply {

@@ -4,6 +4,7 @@ ghost use Rattle.machine.specs.Words.{is_reference};
 ghost use Rattle.machine.specs.Work.{ConsWork, FetchWork, NoWork};
 ghost use Rattle.machine.specs.declared.faults.MemoryFault.TheVariants.{NotCell};
 ghost use Rattle.machine.specs.declared.side.Side.TheVariants.{Head, Tail};
+ghost use Rattle.semispace.specs.Formed.{FormedThrough};
 ghost use Rattle.std.specs.Prelude.{◌≡◌, if◌then◌else◌, Ok, Err};
 
 use super::ListMemory;
@@ -30,6 +31,7 @@ impl<S: Store, A: Atom> ListMemory<S, A> {
         ensures answer { result ≡ (cons_call self.old d a b).answer }
         ensures after { self.new ≡ (cons_call self.old d a b).after }
         ensures bounded { ConsWork self.old self.new }
+        ensures formed { FormedThrough self.old self.new }
     {
         self.space.admit(&[d, a, b])?;
         self.space.collect();
@@ -45,6 +47,7 @@ impl<S: Store, A: Atom> ListMemory<S, A> {
         ensures answer { result ≡ (fetch_call side self.old d r).answer }
         ensures after { self.new ≡ (fetch_call side self.old d r).after }
         ensures bounded { FetchWork self.old self.new }
+        ensures formed { FormedThrough self.old self.new }
     {
         self.space.admit(&[d, r])?;
         let word = self.space.register(r);
@@ -59,6 +62,7 @@ impl<S: Store, A: Atom> ListMemory<S, A> {
         ensures answer { result ≡ (fetch_call Head self.old d r).answer }
         ensures after { self.new ≡ (fetch_call Head self.old d r).after }
         ensures bounded { FetchWork self.old self.new }
+        ensures formed { FormedThrough self.old self.new }
     {
         self.fetch(Side::Head, d, r)
     }
@@ -67,6 +71,7 @@ impl<S: Store, A: Atom> ListMemory<S, A> {
         ensures answer { result ≡ (fetch_call Tail self.old d r).answer }
         ensures after { self.new ≡ (fetch_call Tail self.old d r).after }
         ensures bounded { FetchWork self.old self.new }
+        ensures formed { FormedThrough self.old self.new }
     {
         self.fetch(Side::Tail, d, r)
     }
@@ -76,6 +81,7 @@ impl<S: Store, A: Atom> ListMemory<S, A> {
         ensures answer { result ≡ (replace_call side self.old r v).answer }
         ensures after { self.new ≡ (replace_call side self.old r v).after }
         ensures bounded { NoWork self.old self.new }
+        ensures formed { FormedThrough self.old self.new }
     {
         self.space.admit(&[r, v])?;
         let word = self.space.register(r);
@@ -89,6 +95,7 @@ impl<S: Store, A: Atom> ListMemory<S, A> {
         ensures answer { result ≡ (replace_call Head self.old r v).answer }
         ensures after { self.new ≡ (replace_call Head self.old r v).after }
         ensures bounded { NoWork self.old self.new }
+        ensures formed { FormedThrough self.old self.new }
     {
         self.replace(Side::Head, r, v)
     }
@@ -97,6 +104,7 @@ impl<S: Store, A: Atom> ListMemory<S, A> {
         ensures answer { result ≡ (replace_call Tail self.old r v).answer }
         ensures after { self.new ≡ (replace_call Tail self.old r v).after }
         ensures bounded { NoWork self.old self.new }
+        ensures formed { FormedThrough self.old self.new }
     {
         self.replace(Side::Tail, r, v)
     }

@@ -4,6 +4,7 @@ ghost use Rattle.machine.specs.Feed.{feed_call, walk};
 ghost use Rattle.machine.specs.Holds.{back_call};
 ghost use Rattle.memory.specs.Steps.{next_call, past, SameHolds};
 ghost use Rattle.memory.specs.Tokens.{Held, pass_of};
+ghost use Rattle.semispace.specs.Formed.{FormedThrough};
 
 use super::ListMemory;
 use super::cells::need_cell;
@@ -55,7 +56,8 @@ impl<S: Store, A: Atom> ListMemory<S, A> {
     // Gives back to r what was held: a back that is not refused. Callers have the like in a crate above, since no public call here asks anything of them.
     fn restore(&mut self, r: usize, token: Token)
         requires { (r < 16) × (Held self.old token) }
-        ensures { self.new ≡ (back_call self.old r (pass_of token)).after }
+        ensures after { self.new ≡ (back_call self.old r (pass_of token)).after }
+        ensures formed { FormedThrough self.old self.new }
     {
         match self.back(r, token) {
             Ok(()) => (),
@@ -73,6 +75,7 @@ impl<S: Store, A: Atom> ListMemory<S, A> {
         ensures answer { result ≡ (feed_call A.meant self.old r p buffer.old).answer }
         ensures after { self.new ≡ (feed_call A.meant self.old r p buffer.old).after }
         ensures buffer { buffer.new ≡ (feed_call A.meant self.old r p buffer.old).buffer }
+        ensures formed { FormedThrough self.old self.new }
     {
         let token = self.hold(r, p)?;
         let answer = self.walk(r, buffer);

@@ -2,6 +2,7 @@
 ghost use Rattle.machine.specs.Holds.{hold_call, back_call, may_hold, held_for};
 ghost use Rattle.machine.specs.Work.{NoWork};
 ghost use Rattle.memory.specs.Tokens.{Held, Unspent, pass_of, passed, kept};
+ghost use Rattle.semispace.specs.Formed.{FormedThrough};
 ghost use Rattle.std.specs.Prelude.{◌≡◌, IfOk};
 
 use super::ListMemory;
@@ -30,6 +31,7 @@ impl<S: Store, A: Atom> ListMemory<S, A> {
         ensures held { IfOk result (λ token. Held self.new token) }
         ensures after { self.new ≡ (hold_call self.old r p).after }
         ensures bounded { NoWork self.old self.new }
+        ensures formed { FormedThrough self.old self.new }
     {
         self.space.admit(&[r])?;
         self.check_hold(p)?;
@@ -51,6 +53,7 @@ impl<S: Store, A: Atom> ListMemory<S, A> {
         ensures answer { result ≡ kept token (back_call self.old d (pass_of token)).answer }
         ensures after { self.new ≡ (back_call self.old d (pass_of token)).after }
         ensures bounded { NoWork self.old self.new }
+        ensures formed { FormedThrough self.old self.new }
     {
         // no closure: it would take the token along where the call goes on
         if let Err(fault) = self.space.admit(&[d]) {

@@ -2,7 +2,7 @@
 ghost use Rattle.machine.specs.Calls.{set_call, load_call, clear_call, look_call, same_call};
 ghost use Rattle.machine.specs.Words.{sight_of};
 ghost use Rattle.machine.specs.Work.{NoWork};
-ghost use Rattle.semispace.specs.Formed.{Formed};
+ghost use Rattle.semispace.specs.Formed.{Formed, FormedThrough};
 ghost use Rattle.std.specs.Prelude.{◌≡◌};
 
 use super::ListMemory;
@@ -30,6 +30,7 @@ impl<S: Store, A: Atom> ListMemory<S, A> {
         ensures answer { result ≡ (set_call self.old d (A.coded atom)).answer }
         ensures after { self.new ≡ (set_call self.old d (A.coded atom)).after }
         ensures bounded { NoWork self.old self.new }
+        ensures formed { FormedThrough self.old self.new }
     {
         self.space.admit(&[d])?;
         self.space.set_register(d, atom.code()?);
@@ -40,6 +41,7 @@ impl<S: Store, A: Atom> ListMemory<S, A> {
         ensures answer { result ≡ (load_call self.old d r).answer }
         ensures after { self.new ≡ (load_call self.old d r).after }
         ensures bounded { NoWork self.old self.new }
+        ensures formed { FormedThrough self.old self.new }
     {
         self.space.admit(&[d, r])?;
         self.space.set_register(d, self.space.register(r));
@@ -50,13 +52,13 @@ impl<S: Store, A: Atom> ListMemory<S, A> {
         ensures answer { result ≡ (clear_call self.old d).answer }
         ensures after { self.new ≡ (clear_call self.old d).after }
         ensures bounded { NoWork self.old self.new }
+        ensures formed { FormedThrough self.old self.new }
     {
         self.space.admit(&[d])?;
         self.space.set_register(d, NIL);
         Ok(())
     }
 
-    // Tells callers too what is true of every memory.
     pub fn look(&self, r: usize) -> Result<Sight<A>, MemoryFault>
         ensures answer { result ≡ (look_call A.meant self.now r).answer }
         ensures formed { Formed self.now }
@@ -66,7 +68,8 @@ impl<S: Store, A: Atom> ListMemory<S, A> {
     }
 
     pub fn same(&self, a: usize, b: usize) -> Result<bool, MemoryFault>
-        ensures { result ≡ (same_call self.now a b).answer }
+        ensures answer { result ≡ (same_call self.now a b).answer }
+        ensures formed { Formed self.now }
     {
         self.space.admit(&[a, b])?;
         Ok(self.space.register(a) == self.space.register(b))

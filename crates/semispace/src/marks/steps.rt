@@ -41,7 +41,7 @@ impl Marks {
     }
 
     // Whether a cons may have a cell, or which refusal it gets.
-    pub(crate) fn room(self) -> Result<(), MemoryFault>
+    pub fn room(self) -> Result<(), MemoryFault>
         ensures { result ≡ room self }
     {
         if self.scan_over() {

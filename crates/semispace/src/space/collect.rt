@@ -3,6 +3,7 @@ ghost use Rattle.std.specs.Prelude.{◌≡◌, ◌+◌};
 ghost use Rattle.machine.specs.Machine.{allocate, collected, new_cell, room, with_heap};
 ghost use Rattle.machine.specs.Words.{refer};
 ghost use Rattle.machine.specs.Work.{ConsWork};
+ghost use Rattle.semispace.specs.Formed.{FormedThrough};
 
 use super::Semispace;
 use crate::cells::{put_cell, reference};
@@ -14,10 +15,13 @@ impl<S: Store> Semispace<S> {
     pub fn collect(&mut self)
         ensures after { self.new ≡ collected self.old }
         ensures bounded { ConsWork self.old self.new }
+        ensures formed { FormedThrough self.old self.new }
     {
+        self.formed();
         let pace = self.state.terms.pace;
         self.flip_if_due();
         self.scan(pace);
+        self.formed();
     }
 
     // Whether a cons may have a cell, or which refusal it gets.
@@ -31,10 +35,13 @@ impl<S: Store> Semispace<S> {
     pub fn allocate(&mut self, pair: (u32, u32)) -> u32
         ensures answer { result ≡ refer (new_cell self.old) }
         ensures after { self.new ≡ allocate self.old pair }
+        ensures formed { FormedThrough self.old self.new }
     {
+        self.formed();
         self.state.marks = self.state.marks.allocated_one();
         let cell = self.here() + self.state.marks.top;
         put_cell(&mut self.store, cell, pair);
+        self.formed();
         reference(cell)
     }
 }

@@ -3,6 +3,7 @@ ghost use Rattle.std.specs.Prelude.{◌≡◌, ◌+◌, ◌*◌, ◌<◌, ◌≤
 ghost use Rattle.machine.specs.Heap.{here, there, copy_cell, follow, move_cases, move, move_at, scan_cell, scan_over, scan, trade, with_words};
 ghost use Rattle.machine.specs.Machine.{with_heap};
 ghost use Rattle.machine.specs.Work.{FetchWork};
+ghost use Rattle.semispace.specs.Formed.{FormedThrough};
 
 use super::Semispace;
 use crate::cells::{cell_at, cell_of, put_cell, put_word, reference, refers_into, word_at};
@@ -74,17 +75,23 @@ impl<S: Store> Semispace<S> {
         ensures answer { result ≡ (move_at self.old.heap place).value }
         ensures after { self.new ≡ with_heap self.old (move_at self.old.heap place).after }
         ensures bounded { FetchWork self.old self.new }
+        ensures formed { FormedThrough self.old self.new }
     {
+        self.formed();
         let word = word_at(&self.store, place);
         let moved = self.move_word(word);
         put_word(&mut self.store, place, moved);
+        self.formed();
         moved
     }
 
     pub fn put_word(&mut self, place: usize, word: u32)
-        ensures { self.new ≡ with_heap self.old (with_words self.old.heap (slice_set self.old.heap.words place word)) }
+        ensures after { self.new ≡ with_heap self.old (with_words self.old.heap (slice_set self.old.heap.words place word)) }
+        ensures formed { FormedThrough self.old self.new }
     {
+        self.formed();
         put_word(&mut self.store, place, word);
+        self.formed();
     }
 
     // Moves the head, then the tail of the first cell not yet scanned.

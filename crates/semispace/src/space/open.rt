@@ -1,60 +1,24 @@
 // Opening over the two halves of a store.
-ghost use Rattle.std.specs.Prelude.{◌≡◌, ℕ, ◌+◌, ◌*◌, ◌≤◌, OnOk};
-ghost use Rattle.machine.specs.Calls.{half_of, may_open, open_call, well_paced};
-ghost use Rattle.machine.specs.Machine.{ceiling, fresh_machine};
+ghost use Rattle.std.specs.Prelude.{◌≡◌};
+ghost use Rattle.machine.specs.Calls.{open_call};
 ghost use Rattle.machine.specs.Work.{NoWork};
+ghost use Rattle.semispace.specs.Formed.{FormedThrough};
 
 use super::Semispace;
-use crate::half::Half;
-use crate::marks::Marks;
-use crate::roots::Roots;
-use crate::state::State;
-use crate::terms::{Terms, conses_to_scan};
 use machine::faults::MemoryFault;
 use store::words::Store;
 
-// The limit is above 0 and leaves room for what is allocated while the cells in reach are copied.
-fn check_limit(size: usize, pace: usize, limit: usize) -> Result<(), MemoryFault>
-    requires { (size ≤ 4096) × ((1 ≤ pace) × (pace ≤ 64)) }
-    ensures answer { result ≡ well_paced size pace limit }
-    ensures few { OnOk result (limit ≤ 4096) }
-{
-    // a limit above the size is told first, so that the sum stays small
-    if limit == 0 || limit > size || limit + 2 * conses_to_scan(limit, pace) > size {
-        return Err(MemoryFault::Limit);
-    }
-    Ok(())
-}
-
 impl<S: Store> Semispace<S> {
-    // The store is not written. Three numbers and no struct of them, as the memory's open takes them.
+    // The state is lent the store only to look at. Three numbers and no struct of them, as the memory's open takes them.
     pub fn open(&mut self, pace: usize, limit: usize, number: u32) -> Result<(), MemoryFault>
         ensures answer { result ≡ (open_call self.old pace limit number).answer }
         ensures after { self.new ≡ (open_call self.old pace limit number).after }
         ensures bounded { NoWork self.old self.new }
+        ensures formed { FormedThrough self.old self.new }
     {
-        if self.state.opened {
-            return Err(MemoryFault::AlreadyOpen);
-        }
-        let size = self.store.size() / 4;
-        if size < 3 || size > 4096 {
-            return Err(MemoryFault::HalfSize);
-        }
-        if pace == 0 || pace > 64 {
-            return Err(MemoryFault::Pace);
-        }
-        check_limit(size, pace, limit)?;
-        self.state = State {
-            half: Half::Lower,
-            marks: Marks::empty(size, 0),
-            roots: Roots::empty(),
-            terms: Terms {
-                pace,
-                limit,
-                number,
-            },
-            opened: true,
-        };
-        Ok(())
+        self.formed();
+        let answer = self.state.open(&self.store, pace, limit, number);
+        self.formed();
+        answer
     }
 }

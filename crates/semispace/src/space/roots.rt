@@ -2,7 +2,7 @@
 ghost use Rattle.machine.specs.Calls.{admitted, known};
 ghost use Rattle.machine.specs.Holds.{hold_at, with_hold};
 ghost use Rattle.machine.specs.Machine.{register, with_register};
-ghost use Rattle.semispace.specs.Formed.{Formed};
+ghost use Rattle.semispace.specs.Formed.{Formed, FormedThrough};
 ghost use Rattle.std.specs.Prelude.{◌≡◌, length};
 
 use super::Semispace;
@@ -44,11 +44,14 @@ impl<S: Store> Semispace<S> {
     }
 
     pub fn set_register(&mut self, d: usize, word: u32)
-        ensures { self.new ≡ with_register self.old d word }
+        ensures after { self.new ≡ with_register self.old d word }
+        ensures formed { FormedThrough self.old self.new }
     {
+        self.formed();
         if d < REGISTERS {
             self.state.roots.registers[d] = word;
         }
+        self.formed();
     }
 
     pub fn hold_at(&self, p: usize) -> Option<u32>
@@ -60,10 +63,13 @@ impl<S: Store> Semispace<S> {
     pub fn set_hold(&mut self, p: usize, hold: Option<u32>)
         ensures after { self.new ≡ with_hold self.old p hold }
         ensures eight { length self.new.roots.holds ≡ 8 }
+        ensures formed { FormedThrough self.old self.new }
     {
+        self.formed();
         if p < HOLDS {
             self.state.roots.holds[p] = hold;
         }
+        self.formed();
     }
 
     // The number that the memory was opened with.
